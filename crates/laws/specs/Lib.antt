@@ -1,0 +1,9 @@
+pub mod Truth
+pub mod Text
+pub mod Bytes
+pub mod Checks
+pub mod Search
+pub mod Order
+pub mod OrderLaws
+pub mod Kinds
+pub mod OneAnswer

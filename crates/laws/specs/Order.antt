@@ -1,0 +1,27 @@
+-- Less, the same or more: the order of two numbers, and an order by a first key and then by a second.
+use mathlib.Core.List.{List, [], _∷_}
+use Prim.Native.Nat.{ℕ, _+_, _*_}
+use lib.Dec.{eqb, ltb}
+use Rattle.laws.specs.Truth.{pick}
+use Rattle.laws.specs.declared.Order.{Order}
+use Rattle.laws.specs.declared.Order.the-variants.{Less, Same, More}
+
+unfoldable pub orderOf : ℕ → ℕ → Order
+orderOf m n = pick (ltb m n) Less (pick (eqb m n) Same More)
+
+-- by the first key, and by the second where the first is the same
+abbrev pub thenBy : Order → Order → Order
+thenBy Less later = Less
+thenBy Same later = later
+thenBy More later = More
+
+-- the order of texts by their bytes, a prefix first
+unfoldable pub bytesOrder : List ℕ → List ℕ → Order
+bytesOrder [] [] = Same
+bytesOrder [] (b ∷ y) = Less
+bytesOrder (a ∷ x) [] = More
+bytesOrder (a ∷ x) (b ∷ y) = thenBy (orderOf a b) (bytesOrder x y)
+
+-- two keys as one number, the second a digit below the base
+unfoldable pub join : ℕ → ℕ → ℕ → ℕ
+join base a x = a * base + x

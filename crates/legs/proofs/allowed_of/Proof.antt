@@ -1,0 +1,55 @@
+use Rattle.legs.specs.Ratios.{ratios, names, lineAllows, ownAllows, allowedOf}
+use Rattle.laws.specs.Search.{firstWhere, found-here, not-here, none-left}
+use lib.ListN.{drop}
+use mathlib.Core.Path.{_≡_, refl, sym, _∙_}
+use Prim.Native.Nat.{_≤_, _-_}
+use native.Mathlib.Omega.{arith}
+use borrow.Author.Needs.{needs}
+use Rattle.legs.proofs.allowed_of.Statement.{statement}
+use Rattle.legs.proofs.allowed_of.Tie as tie
+
+abbrev Inv-loop : tie.InvT-loop
+Inv-loop f o i₀ i = (i ≤ 8) × (firstWhere (names f o) lineAllows (ownAllows f o) (drop i ratios) ≡ allowedOf f o)
+
+abbrev μ-loop : tie.MeasureT-loop
+μ-loop f o i₀ i = 8 - i
+
+loop-holds : tie.Need-loop-holds Inv-loop μ-loop
+unfolding allowedOf
+loop-holds c = (omega arith, refl)
+
+returns : tie.Need-returns Inv-loop μ-loop
+unfolding ratios
+returns c =
+    let l = c .before .before .before .before .before .loop in
+    c .line-allows .ensures ∙ found-here _ _ _ ratios (l .i) (l .inv .1) _ (omega arith) (sym (c .before .before .is-named .ensures) ∙ c .before .if1 .taken)
+
+loop-again : tie.Need-loop-again Inv-loop μ-loop
+unfolding ratios
+loop-again c =
+    let l = c .before .before .before .before .loop in
+    (omega arith, not-here _ _ _ ratios (l .i) (l .inv .1) _ (omega arith) (sym (c .before .is-named .ensures) ∙ c .if1 .left))
+
+returns-2 : tie.Need-returns-2 Inv-loop μ-loop
+unfolding ratios
+returns-2 c =
+    let l = c .before .before .loop in
+    c .own-allows .ensures ∙ none-left _ _ _ ratios (l .i) (l .inv .1) (omega arith)
+
+pub allowed-of-spec : {M : Type 1} → statement M
+allowed-of-spec =
+    tie.close
+    (tie.spec
+    Inv-loop
+    μ-loop
+    loop-holds
+    (λ c. search needs)
+    (λ c. search needs)
+    (λ c κs. search needs)
+    (λ c κs. search needs)
+    returns
+    (λ c. search needs)
+    (λ c. search needs)
+    loop-again
+    (λ c κs. search needs)
+    returns-2)

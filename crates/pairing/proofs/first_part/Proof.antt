@@ -1,0 +1,21 @@
+use Rattle.pairing.specs.Rules.{pairChecks}
+use Rattle.laws.specs.Checks.{firstFailing}
+use borrow.Author.Needs.{needs}
+use Rattle.pairing.proofs.first_part.Statement.{statement}
+use Rattle.pairing.proofs.first_part.Tie as tie
+
+returns : tie.Need-returns
+unfolding firstFailing pairChecks
+returns c = cc
+
+pub first-part-spec : {M : Type 1} → statement M
+first-part-spec =
+    tie.close
+    (tie.spec
+    (λ c κs. search needs)
+    (λ c κs. search needs)
+    (λ c κs. search needs)
+    (λ c κs. search needs)
+    (λ c κs. search needs)
+    (λ c κs. search needs)
+    returns)

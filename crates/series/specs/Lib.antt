@@ -1,0 +1,4 @@
+pub mod Natures
+pub mod Checks
+pub mod Key
+pub mod KeyLaws
