@@ -1,2 +1,1 @@
-pub mod Ratios
 pub mod Legs

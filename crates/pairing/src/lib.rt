@@ -1,6 +1,6 @@
 // Which pairs may stand: the rule of each kind, and the sides of a pair's legs.
 ghost use mathlib.Core.Path.{_≡_};
-ghost use Rattle.pairing.specs.Rules.{rule, debitVertical, creditVertical, timeSpread, twoShort, futureWithOption, conversion, calendar, betweenProducts, noRule, partsOf, pairChecks, pairNumber, mayStand};
+ghost use Rattle.pairing.specs.Rules.{rule, futureWithOption, noRule, partsOf, pairChecks, pairNumber, mayStand};
 ghost use Rattle.pairing.specs.Sides.{firstSide, secondSide};
 ghost use Rattle.laws.specs.Checks.{firstFailing};
 use series::Series;
@@ -47,104 +47,38 @@ fn no_rule() -> Parts
     }
 }
 
-// Kind 1.
-fn debit_vertical(long: Series, short: Series, r1: u32, r2: u32) -> Parts
-    ensures { λ r. ⌜ r ≡ debitVertical long short r1 r2 ⌝ }
-{
-    let codes = legs::same_codes(long, short);
-    let natures = legs::same_natures(long, short);
-    let strikes = legs::debit_strikes(long, short);
-    let ratio = legs::one_to_one(r1, r2);
-    rule_of(codes, natures, long.date == short.date, strikes, ratio)
-}
-
-// Kind 2: as 1 with the strikes the other way.
-fn credit_vertical(long: Series, short: Series, r1: u32, r2: u32) -> Parts
-    ensures { λ r. ⌜ r ≡ creditVertical long short r1 r2 ⌝ }
-{
-    let codes = legs::same_codes(long, short);
-    let natures = legs::same_natures(long, short);
-    let strikes = legs::debit_strikes(short, long);
-    let ratio = legs::one_to_one(r1, r2);
-    rule_of(codes, natures, long.date == short.date, strikes, ratio)
-}
-
-// Kind 3.
-fn time_spread(long: Series, short: Series, r1: u32, r2: u32) -> Parts
-    ensures { λ r. ⌜ r ≡ timeSpread long short r1 r2 ⌝ }
-{
-    let codes = legs::same_codes(long, short);
-    let natures = legs::same_natures(long, short);
-    let ratio = legs::one_to_one(r1, r2);
-    rule_of(codes, natures, short.date < long.date, true, ratio)
-}
-
-// Kind 4.
-fn two_short(call: Series, put: Series, r1: u32, r2: u32) -> Parts
-    ensures { λ r. ⌜ r ≡ twoShort call put r1 r2 ⌝ }
-{
-    let codes = legs::same_codes(call, put);
-    let natures = legs::call_then_put(call, put);
-    let ratio = legs::one_to_one(r1, r2);
-    rule_of(codes, natures, true, true, ratio)
-}
-
-// Kind 5.
+// Kind 5: the two codes select the ratios that are allowed.
 fn future_with_option(future: Series, option: Series, r1: u32, r2: u32) -> Parts
     ensures { λ r. ⌜ r ≡ futureWithOption future option r1 r2 ⌝ }
 {
     let f = future.code;
     let o = option.code;
-    let allowed = legs::allowed_of(f, o);
-    let codes = legs::is_couple(allowed);
+    let allowed = ratios::allowed_of(f, o);
+    let codes = ratios::is_couple(allowed);
     let natures = legs::future_then_option(future, option);
-    let ratio = legs::fits_ratio(allowed, r1, r2);
+    let ratio = ratios::fits_ratio(allowed, r1, r2);
     rule_of(codes, natures, true, true, ratio)
 }
 
-// Kind 6.
-fn conversion_of(long: Series, short: Series, r1: u32, r2: u32) -> Parts
-    ensures { λ r. ⌜ r ≡ conversion long short r1 r2 ⌝ }
-{
-    let codes = legs::same_codes(long, short);
-    let natures = legs::one_call_one_put(long, short);
-    let ratio = legs::one_to_one(r1, r2);
-    rule_of(codes, natures, true, true, ratio)
-}
-
-// Kind 7.
-fn calendar_of(long: Series, short: Series, r1: u32, r2: u32) -> Parts
-    ensures { λ r. ⌜ r ≡ calendar long short r1 r2 ⌝ }
-{
-    let codes = legs::same_codes(long, short);
-    let natures = legs::both_futures(long, short);
-    let ratio = legs::one_to_one(r1, r2);
-    rule_of(codes, natures, long.date != short.date, true, ratio)
-}
-
-// Kind 8.
-fn between_products(long: Series, short: Series, r1: u32, r2: u32) -> Parts
-    ensures { λ r. ⌜ r ≡ betweenProducts long short r1 r2 ⌝ }
-{
-    let codes = legs::are_two_products(long, short);
-    let natures = legs::both_futures(long, short);
-    let ratio = legs::one_to_one(r1, r2);
-    rule_of(codes, natures, true, true, ratio)
-}
-
-// Which parts of its kind's rule a pair meets.
+// Which parts of its kind's rule a pair meets: codes, natures, dates, strikes, ratio.
 pub fn parts_of(kind: u32, a: Series, b: Series, r1: u32, r2: u32) -> Parts
     ensures { λ r. ⌜ r ≡ partsOf kind a b r1 r2 ⌝ }
 {
+    let together = a.date == b.date;
+    let later = b.date < a.date;
+    let same = legs::same_codes(a, b);
+    let alike = legs::same_natures(a, b);
+    let futures = legs::both_futures(a, b);
+    let one = legs::one_to_one(r1, r2);
     match kind {
-        1 => debit_vertical(a, b, r1, r2),
-        2 => credit_vertical(a, b, r1, r2),
-        3 => time_spread(a, b, r1, r2),
-        4 => two_short(a, b, r1, r2),
+        1 => rule_of(same, alike, together, legs::debit_strikes(a, b), one),
+        2 => rule_of(same, alike, together, legs::debit_strikes(b, a), one),
+        3 => rule_of(same, alike, later, true, one),
+        4 => rule_of(same, legs::call_then_put(a, b), true, true, one),
         5 => future_with_option(a, b, r1, r2),
-        6 => conversion_of(a, b, r1, r2),
-        7 => calendar_of(a, b, r1, r2),
-        8 => between_products(a, b, r1, r2),
+        6 => rule_of(same, legs::one_call_one_put(a, b), true, true, one),
+        7 => rule_of(same, futures, !together, true, one),
+        8 => rule_of(legs::are_two_products(a, b), futures, true, true, one),
         _ => no_rule(),
     }
 }

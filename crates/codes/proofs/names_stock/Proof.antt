@@ -5,7 +5,7 @@ use Rattle.codes.proofs.names_stock.Statement.{statement}
 use Rattle.codes.proofs.names_stock.Tie as tie
 
 returns : tie.Need-returns
-returns c = named-by _ (omega arith) (cc)
+returns c = named-by _ (omega arith) (simp (c .and .ensures, c .before .is-capital2 .ensures, c .before .before .is-capital .ensures))
 
 pub names-stock-spec : {M : Type 1} → statement M
 names-stock-spec =

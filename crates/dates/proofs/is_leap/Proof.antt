@@ -5,7 +5,7 @@ use Rattle.dates.proofs.is_leap.Tie as tie
 
 returns : tie.Need-returns
 unfolding leapYear
-returns c = cc
+returns c = simp (c .and .ensures, c .before .or .ensures)
 
 pub is-leap-spec : {M : Type 1} → statement M
 is-leap-spec = tie.close (tie.spec (λ c κs. search needs) (λ c κs. search needs) returns)

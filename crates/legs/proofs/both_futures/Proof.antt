@@ -5,7 +5,7 @@ use Rattle.legs.proofs.both_futures.Tie as tie
 
 returns : tie.Need-returns
 unfolding bothFutures
-returns c = cc
+returns c = simp (c .and .ensures, c .before .is-future2 .ensures, c .before .before .is-future .ensures)
 
 pub both-futures-spec : {M : Type 1} → statement M
 both-futures-spec =

@@ -5,7 +5,7 @@ use Rattle.legs.proofs.is_couple_of.Tie as tie
 
 returns : tie.Need-returns
 unfolding couple
-returns c = cc
+returns c = simp (c .or .ensures, c .before .and2 .ensures, c .before .before .same-code4 .ensures, c .before .before .before .same-code3 .ensures, c .before .before .before .before .and .ensures, c .before .before .before .before .before .same-code2 .ensures, c .before .before .before .before .before .before .same-code .ensures)
 
 pub is-couple-of-spec : {M : Type 1} → statement M
 is-couple-of-spec =

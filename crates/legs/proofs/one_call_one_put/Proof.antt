@@ -5,7 +5,7 @@ use Rattle.legs.proofs.one_call_one_put.Tie as tie
 
 returns : tie.Need-returns
 unfolding oneCallOnePut
-returns c = cc
+returns c = simp (c .or .ensures, c .before .call-then-put2 .ensures, c .before .before .call-then-put .ensures)
 
 pub one-call-one-put-spec : {M : Type 1} → statement M
 one-call-one-put-spec =

@@ -5,7 +5,7 @@ use Rattle.legs.proofs.same_natures.Tie as tie
 
 returns : tie.Need-returns
 unfolding sameNature
-returns c = cc
+returns c = simp (c .or .ensures, c .before .and2 .ensures, c .before .before .is-put2 .ensures, c .before .before .before .is-put .ensures, c .before .before .before .before .and .ensures, c .before .before .before .before .before .is-call2 .ensures, c .before .before .before .before .before .before .is-call .ensures)
 
 pub same-natures-spec : {M : Type 1} → statement M
 same-natures-spec =

@@ -6,7 +6,7 @@ use Rattle.pairing.proofs.first_part.Tie as tie
 
 returns : tie.Need-returns
 unfolding firstFailing pairChecks
-returns c = cc
+returns c = simp (c .unless6 .ensures, c .before .unless5 .ensures, c .before .before .unless4 .ensures, c .before .before .before .unless3 .ensures, c .before .before .before .before .unless2 .ensures, c .before .before .before .before .before .unless .ensures)
 
 pub first-part-spec : {M : Type 1} → statement M
 first-part-spec =

@@ -5,7 +5,7 @@ use Rattle.pairing.proofs.future_with_option.Tie as tie
 
 returns : tie.Need-returns
 unfolding futureWithOption
-returns c = cc
+returns c = simp (c .rule-of .ensures, c .before .fits-ratio .ensures, c .before .before .future-then-option .ensures, c .before .before .before .is-couple .ensures, c .before .before .before .before .allowed-of .ensures)
 
 pub future-with-option-spec : {M : Type 1} → statement M
 future-with-option-spec =

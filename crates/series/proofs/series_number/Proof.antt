@@ -6,7 +6,7 @@ use Rattle.series.proofs.series_number.Tie as tie
 
 returns : tie.Need-returns
 unfolding seriesNumber seriesChecks firstFailing classOf
-returns c = cc
+returns c = simp (c .unless3 .ensures, c .before .unless2 .ensures, c .before .before .unless .ensures, c .before .before .before .nature-suits .ensures, c .before .before .before .before .is-day .ensures, c .before .before .before .before .before .is-known .ensures, c .before .before .before .before .before .before .product-of .ensures)
 
 pub series-number-spec : {M : Type 1} → statement M
 series-number-spec =

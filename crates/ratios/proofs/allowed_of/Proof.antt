@@ -1,12 +1,12 @@
-use Rattle.legs.specs.Ratios.{ratios, names, lineAllows, ownAllows, allowedOf}
+use Rattle.ratios.specs.Ratios.{ratios, names, lineAllows, ownAllows, allowedOf}
 use Rattle.laws.specs.Search.{firstWhere, found-here, not-here, none-left}
 use lib.ListN.{drop}
 use mathlib.Core.Path.{_≡_, refl, sym, _∙_}
 use Prim.Native.Nat.{_≤_, _-_}
 use native.Mathlib.Omega.{arith}
 use borrow.Author.Needs.{needs}
-use Rattle.legs.proofs.allowed_of.Statement.{statement}
-use Rattle.legs.proofs.allowed_of.Tie as tie
+use Rattle.ratios.proofs.allowed_of.Statement.{statement}
+use Rattle.ratios.proofs.allowed_of.Tie as tie
 
 abbrev Inv-loop : tie.InvT-loop
 Inv-loop f o i₀ i = (i ≤ 8) × (firstWhere (names f o) lineAllows (ownAllows f o) (drop i ratios) ≡ allowedOf f o)

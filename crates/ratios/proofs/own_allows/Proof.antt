@@ -1,6 +1,6 @@
 use borrow.Author.Needs.{needs}
-use Rattle.legs.proofs.own_allows.Statement.{statement}
-use Rattle.legs.proofs.own_allows.Tie as tie
+use Rattle.ratios.proofs.own_allows.Statement.{statement}
+use Rattle.ratios.proofs.own_allows.Tie as tie
 
 returns : tie.Need-returns
 returns c = simp (← c .before .is-own-option .ensures, c .if1 .taken)

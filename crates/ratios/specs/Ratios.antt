@@ -10,9 +10,9 @@ use Rattle.laws.specs.Text.{three}
 use Rattle.laws.specs.Bytes.{sameBytes}
 use Rattle.laws.specs.Search.{firstWhere}
 use Rattle.codes.specs.Codes.{ownOption}
-use Rattle.legs.specs.declared.RatioLine.{RatioLine}
-use Rattle.legs.specs.declared.Allowed.{Allowed}
-use Rattle.legs.specs.declared.Allowed.the-variants.{Nothing, Ratio}
+use Rattle.ratios.specs.declared.RatioLine.{RatioLine}
+use Rattle.ratios.specs.declared.Allowed.{Allowed}
+use Rattle.ratios.specs.declared.Allowed.the-variants.{Nothing, Ratio}
 
 -- a line of the table: r1 of the future to least..greatest of the option
 abbrev pub line : ℕ → String → ℕ → ℕ → String → RatioLine
