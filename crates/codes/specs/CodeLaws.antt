@@ -7,10 +7,13 @@ use native.Mathlib.Omega.{arith}
 use lib.Dec.{eqb, ltb}
 use lib.ListN.{length, getD}
 use borrow.Author.Tests.{eq-eqb, eqb-true, ltb-true}
-use Rattle.laws.specs.Truth.{pick, both, both-true, within-true, clash}
+use Rattle.laws.specs.Truth.{pick, both}
+use Rattle.laws.specs.TruthLaws.{both-true, within-true, clash}
 use Rattle.laws.specs.Text.{byte}
-use Rattle.laws.specs.Bytes.{sameBytes, are-same}
-use Rattle.laws.specs.Search.{everyLine, found-has}
+use Rattle.laws.specs.Bytes.{sameBytes}
+use Rattle.laws.specs.ByteLaws.{are-same}
+use Rattle.laws.specs.Search.{everyLine}
+use Rattle.laws.specs.SearchLaws.{found-has}
 use Rattle.codes.specs.declared.Class.the-variants.{StockFuture, StockOption}
 use Rattle.codes.specs.declared.Product.{Product}
 use Rattle.codes.specs.Codes.{listed, stock, unknown, capital, namesStock, unlisted, productOf, known}

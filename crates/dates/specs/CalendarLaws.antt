@@ -4,7 +4,8 @@ use mathlib.Core.Bool.{true}
 use Prim.Native.Nat.{ℕ, _≤_, _<_}
 use native.Mathlib.Omega.{arith}
 use native.Mathlib.Nat.{div-add-mod', mod-lt}
-use Rattle.laws.specs.Truth.{both, within, both-true, within-true}
+use Rattle.laws.specs.Truth.{both, within}
+use Rattle.laws.specs.TruthLaws.{both-true, within-true}
 use Rattle.dates.specs.Calendar.{isDay, daysIn, yearOf, monthOf, dayOf}
 
 -- A day has eight digits.

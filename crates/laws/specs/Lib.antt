@@ -1,9 +1,14 @@
 pub mod Truth
+pub mod TruthLaws
 pub mod Text
 pub mod Bytes
+pub mod ByteLaws
 pub mod Checks
+pub mod CheckLaws
 pub mod Search
+pub mod SearchLaws
 pub mod Order
 pub mod OrderLaws
 pub mod Kinds
+pub mod KindLaws
 pub mod OneAnswer

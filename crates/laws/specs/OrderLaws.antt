@@ -7,7 +7,7 @@ use native.Mathlib.Decide.{decLt}
 use native.Mathlib.Omega.{arith}
 use borrow.Author.Tests.{lt-ltb, le-ltb, eq-eqb, ne-eqb}
 use lib.ListN.{length, getD}
-use Rattle.laws.specs.Bytes.{three-bytes}
+use Rattle.laws.specs.ByteLaws.{three-bytes}
 use Rattle.laws.specs.declared.Order.{Order}
 use Rattle.laws.specs.declared.Order.the-variants.{Less, Same, More}
 use Rattle.laws.specs.Order.{orderOf, thenBy, bytesOrder, join}

@@ -1,11 +1,7 @@
--- Tests and what follows from them: picking by a test, both, either, between two ends, and the laws of these.
-use mathlib.Core.Path.{_≡_, refl, sym, _∙_}
-use mathlib.Core.Logic.{_⊎_, inl, inr}
-use mathlib.Core.Bool.{Bool, true, false, not}
-use Prim.Native.Nat.{ℕ, _≤_}
-use native.Mathlib.Omega.{arith}
+-- Tests: picking by a test, both, either, from a least to a greatest.
+use mathlib.Core.Bool.{Bool, true, false}
+use Prim.Native.Nat.{ℕ}
 use lib.Dec.{leb}
-use borrow.Author.Tests.{leb-true, not-true, not-false}
 
 -- the first where the test holds, else the second
 abbrev pub pick : {A : Type 0} → Bool → A → A → A
@@ -23,41 +19,3 @@ either false b = b
 -- x is least to greatest
 abbrev pub within : ℕ → ℕ → ℕ → Bool
 within least greatest x = both (leb least x) (leb x greatest)
-
--- A test is not both true and false.
-pub clash : {b : Bool} → b ≡ true → b ≡ false → ⊥
-clash {b} t f = let z : _≡_ {A = ℕ} 0 1 = cc in omega arith
-
--- A call `if !f(..)`: what the test says of what f ensures.
-pub failed : {x t : Bool} → x ≡ t → not x ≡ true → t ≡ false
-failed e h = sym e ∙ not-true _ h
-
-pub passed : {x t : Bool} → x ≡ t → not x ≡ false → t ≡ true
-passed e h = sym e ∙ not-false _ h
-
-pub false-unless : (b : Bool) → (b ≡ true → ⊥) → b ≡ false
-false-unless true h = absurd (h refl)
-false-unless false h = refl
-
--- Where both hold, each holds.
-pub both-true : (x y : Bool) → both x y ≡ true → (x ≡ true) × (y ≡ true)
-both-true true y e = (refl, e)
-both-true false y e = absurd (clash e refl)
-
-pub either-true : (x y : Bool) → either x y ≡ true → (x ≡ true) ⊎ (y ≡ true)
-either-true true y e = inl refl
-either-true false y e = inr e
-
-pub both-end : (b : Bool) → both b true ≡ b
-both-end true = refl
-both-end false = refl
-
-pub within-true : (least greatest x : ℕ) → within least greatest x ≡ true → (least ≤ x) × (x ≤ greatest)
-within-true least greatest x e =
-    let h = both-true (leb least x) (leb x greatest) e in
-    (leb-true least x (h .0), leb-true x greatest (h .1))
-
--- What holds of each choice holds of what is picked.
-pub picked : {A : Type 0} (P : A → Type 0) (b : Bool) (x y : A) → (b ≡ true → P x) → (b ≡ false → P y) → P (pick b x y)
-picked P true x y h k = h refl
-picked P false x y h k = k refl

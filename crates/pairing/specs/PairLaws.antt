@@ -7,11 +7,15 @@ use Prim.Native.Nat.{ℕ, _≤_}
 use native.Mathlib.Omega.{arith}
 use lib.Dec.{eqb, ltb}
 use borrow.Author.Tests.{eq-eqb, ltb-true, not-true}
-use Rattle.laws.specs.Truth.{pick, both, either, both-true, either-true, clash}
+use Rattle.laws.specs.Truth.{pick, both, either}
+use Rattle.laws.specs.TruthLaws.{both-true, either-true, clash}
 use Rattle.laws.specs.Text.{three}
-use Rattle.laws.specs.Bytes.{sameBytes, are-same, same-self}
-use Rattle.laws.specs.Checks.{allPass, numbered, by-number}
-use Rattle.laws.specs.Kinds.{byKind, each-kind}
+use Rattle.laws.specs.Bytes.{sameBytes}
+use Rattle.laws.specs.ByteLaws.{are-same, same-self}
+use Rattle.laws.specs.Checks.{allPass, numbered}
+use Rattle.laws.specs.CheckLaws.{by-number}
+use Rattle.laws.specs.Kinds.{byKind}
+use Rattle.laws.specs.KindLaws.{each-kind}
 use Rattle.series.specs.declared.Series.{Series}
 use Rattle.series.specs.declared.Nature.{Nature}
 use Rattle.series.specs.declared.Nature.the-variants.{Future, Call, Put}

@@ -14,12 +14,12 @@ use Rattle.legs.specs.Legs.{sameCode, twoProducts, sameNature, callThenPut, one
 abbrev pub any : Bool
 any = true
 
--- The rules.
-
+-- what a kind asks of codes, natures, dates, strikes and ratio, part by part
 abbrev pub rule : Bool → Bool → Bool → Bool → Bool → Parts
 rule codes natures dates strikes ratio =
     record { kind = true; codes = codes; natures = natures; dates = dates; strikes = strikes; ratio = ratio }
 
+-- "1. Debit vertical: long, then short, same option code, nature and date; call: long strike lower; put: long strike higher."
 unfoldable pub debitVertical : Series → Series → ℕ → ℕ → Parts
 debitVertical long short r1 r2 =
     rule (sameCode long short)
@@ -28,7 +28,7 @@ debitVertical long short r1 r2 =
     (debitStrikes long short)
     (oneToOne r1 r2)
 
--- as 1 with the strikes the other way
+-- "2. Credit vertical: as 1 with the strikes the other way."
 unfoldable pub creditVertical : Series → Series → ℕ → ℕ → Parts
 creditVertical long short r1 r2 =
     rule (sameCode long short)
@@ -37,6 +37,7 @@ creditVertical long short r1 r2 =
     (debitStrikes short long)
     (oneToOne r1 r2)
 
+-- "3. Time spread: long, then short, same code and nature, long date later; any strikes."
 unfoldable pub timeSpread : Series → Series → ℕ → ℕ → Parts
 timeSpread long short r1 r2 =
     rule (sameCode long short)
@@ -45,6 +46,7 @@ timeSpread long short r1 r2 =
     any
     (oneToOne r1 r2)
 
+-- "4. Short call, then short put, same code; any strikes and dates."
 unfoldable pub twoShort : Series → Series → ℕ → ℕ → Parts
 twoShort call put r1 r2 =
     rule (sameCode call put)
@@ -53,6 +55,7 @@ twoShort call put r1 r2 =
     any
     (oneToOne r1 r2)
 
+-- "5. Future, then short option: long future with calls, short future with puts", in the ratios allowed. "Any dates."
 unfoldable pub futureWithOption : Series → Series → ℕ → ℕ → Parts
 futureWithOption future option r1 r2 =
     rule (isCouple (allowedOf (future .code) (option .code)))
@@ -61,6 +64,7 @@ futureWithOption future option r1 r2 =
     any
     (fitsRatio (allowedOf (future .code) (option .code)) r1 r2)
 
+-- "6. Conversion or reversal: long option, then short option, same code, one call and one put."
 unfoldable pub conversion : Series → Series → ℕ → ℕ → Parts
 conversion long short r1 r2 =
     rule (sameCode long short)
@@ -69,6 +73,7 @@ conversion long short r1 r2 =
     any
     (oneToOne r1 r2)
 
+-- "7. Calendar: long future, then short future, same code, different dates."
 unfoldable pub calendar : Series → Series → ℕ → ℕ → Parts
 calendar long short r1 r2 =
     rule (sameCode long short)
@@ -77,6 +82,7 @@ calendar long short r1 r2 =
     any
     (oneToOne r1 r2)
 
+-- "8. Two products: one long, then one short, of UNF with SXF, or of GTF with G2F, any dates."
 unfoldable pub betweenProducts : Series → Series → ℕ → ℕ → Parts
 betweenProducts long short r1 r2 =
     rule (twoProducts long short)

@@ -3,12 +3,12 @@ use mathlib.Core.Path.{_≡_, refl, sym, _∙_, ap}
 use mathlib.Core.Logic.{_⊎_, inl, inr}
 use mathlib.Core.Bool.{true}
 use mathlib.Core.List.{List}
-use Prim.Native.Nat.{ℕ, _<_, _≤_}
+use Prim.Native.Nat.{ℕ, _<_, _≤_, _^_}
 use native.Mathlib.Omega.{arith}
 use lib.ListN.{getD}
 use Rattle.laws.specs.declared.Order.{Order}
 use Rattle.laws.specs.declared.Order.the-variants.{Less, Same}
-use Rattle.laws.specs.Truth.{both-true, within-true}
+use Rattle.laws.specs.TruthLaws.{both-true, within-true}
 use Rattle.laws.specs.Checks.{allPass}
 use Rattle.laws.specs.Order.{orderOf, thenBy, bytesOrder, join}
 use Rattle.laws.specs.OrderLaws.{join-order, both-same, then-by-then, same-text, is-less, is-same, less-says, same-says, split, three-order}
@@ -21,18 +21,18 @@ use Rattle.codes.specs.Codes.{isOptionClass}
 use Rattle.codes.specs.CodeLaws.{ThreeBytes, known-three}
 use Rattle.series.specs.Checks.{suits, strikeFits, classOf, seriesChecks, goodSeries}
 use Rattle.series.specs.Natures.{letterOf, strikeOf}
-use Rattle.series.specs.Key.{codeKey, natureKey, highKey, key, seriesOrder}
+use Rattle.series.specs.Key.{partsOrder, codeKey, natureKey, highKey, key, seriesOrder}
 
 -- First by code and date, then by nature and strike.
-pub by-halves : (a b : Series) {r : Order} → natureKey (a .nature) < 1099511627776 → natureKey (b .nature) < 1099511627776 → r ≡ thenBy (orderOf (highKey a) (highKey b)) (orderOf (natureKey (a .nature)) (natureKey (b .nature))) → r ≡ seriesOrder a b
+pub by-halves : (a b : Series) {r : Order} → natureKey (a .nature) < 2 ^ 40 → natureKey (b .nature) < 2 ^ 40 → r ≡ thenBy (orderOf (highKey a) (highKey b)) (orderOf (natureKey (a .nature)) (natureKey (b .nature))) → r ≡ seriesOrder a b
 unfolding seriesOrder key
-by-halves a b h k e = e ∙ sym (join-order 1099511627776 (highKey a) (highKey b) (natureKey (a .nature)) (natureKey (b .nature)) h k)
+by-halves a b h k e = e ∙ sym (join-order (2 ^ 40) (highKey a) (highKey b) (natureKey (a .nature)) (natureKey (b .nature)) h k)
 
 -- what a series that passes its checks has: each digit of its key is below its base
 pub record Fits (s : Series) : Type 0 where
   pub code : ThreeBytes (s .code)
-  pub date : s .date < 4294967296
-  pub strike : strikeOf (s .nature) < 4294967296
+  pub date : s .date < 2 ^ 32
+  pub strike : strikeOf (s .nature) < 2 ^ 32
 
 suited-strike : (c : Class) (n : Nature) → suits c n ≡ true → strikeOf n ≤ 100000000
 suited-strike c Future e = omega arith
@@ -54,7 +54,7 @@ letter-fits Future = omega arith
 letter-fits (Call k) = omega arith
 letter-fits (Put k) = omega arith
 
-nature-fits : (n : Nature) → strikeOf n < 4294967296 → natureKey n < 1099511627776
+nature-fits : (n : Nature) → strikeOf n < 2 ^ 32 → natureKey n < 2 ^ 40
 unfolding natureKey join
 nature-fits n h = omega (arith, letter-fits n)
 
@@ -66,20 +66,13 @@ code-order x y f g =
 
 high-order : (a b : Series) → Fits a → Fits b → orderOf (highKey a) (highKey b) ≡ thenBy (bytesOrder (a .code) (b .code)) (orderOf (a .date) (b .date))
 unfolding highKey
-high-order a b f g = rw (join-order 4294967296 _ _ (a .date) (b .date) (f .date) (g .date), code-order (a .code) (b .code) (f .code) (g .code))
+high-order a b f g = rw (join-order (2 ^ 32) _ _ (a .date) (b .date) (f .date) (g .date), code-order (a .code) (b .code) (f .code) (g .code))
 
-low-order : (m n : Nature) → strikeOf m < 4294967296 → strikeOf n < 4294967296 → orderOf (natureKey m) (natureKey n) ≡ thenBy (orderOf (letterOf m) (letterOf n)) (orderOf (strikeOf m) (strikeOf n))
+low-order : (m n : Nature) → strikeOf m < 2 ^ 32 → strikeOf n < 2 ^ 32 → orderOf (natureKey m) (natureKey n) ≡ thenBy (orderOf (letterOf m) (letterOf n)) (orderOf (strikeOf m) (strikeOf n))
 unfolding natureKey
-low-order m n h k = join-order 4294967296 (letterOf m) (letterOf n) (strikeOf m) (strikeOf n) h k
+low-order m n h k = join-order (2 ^ 32) (letterOf m) (letterOf n) (strikeOf m) (strikeOf n) h k
 
--- The order in the paper's words: code bytes, date, nature letter, strike.
-unfoldable pub partsOrder : Series → Series → Order
-partsOrder a b =
-    thenBy (bytesOrder (a .code) (b .code))
-    (thenBy (orderOf (a .date) (b .date))
-    (thenBy (orderOf (letterOf (a .nature)) (letterOf (b .nature)))
-    (orderOf (strikeOf (a .nature)) (strikeOf (b .nature)))))
-
+-- The order of series is the paper's.
 pub by-parts : (a b : Series) → Fits a → Fits b → seriesOrder a b ≡ partsOrder a b
 unfolding partsOrder
 by-parts a b f g =

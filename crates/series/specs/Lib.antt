@@ -1,4 +1,5 @@
 pub mod Natures
 pub mod Checks
+pub mod CheckLaws
 pub mod Key
 pub mod KeyLaws

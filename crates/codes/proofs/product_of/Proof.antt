@@ -1,6 +1,7 @@
 use Rattle.codes.specs.Codes.{productOf, unlisted, listed}
 use Rattle.codes.specs.declared.Product.{Product}
-use Rattle.laws.specs.Search.{firstWhere, found-here, not-here, none-left}
+use Rattle.laws.specs.Search.{firstWhere}
+use Rattle.laws.specs.SearchLaws.{found-here, not-here, none-left}
 use Rattle.laws.specs.Bytes.{sameBytes}
 use lib.ListN.{drop}
 use mathlib.Core.Path.{_≡_, refl, sym, _∙_}

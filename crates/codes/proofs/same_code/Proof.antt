@@ -1,4 +1,4 @@
-use Rattle.laws.specs.Bytes.{same-three}
+use Rattle.laws.specs.ByteLaws.{same-three}
 use native.Mathlib.Omega.{arith}
 use borrow.Author.Needs.{needs}
 use Rattle.codes.proofs.same_code.Statement.{statement}

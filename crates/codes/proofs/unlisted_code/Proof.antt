@@ -1,6 +1,6 @@
 use Rattle.codes.specs.Codes.{unlisted}
 use borrow.Author.Tests.{eq-eqb, ne-eqb}
-use Rattle.laws.specs.Truth.{failed, passed}
+use Rattle.laws.specs.TruthLaws.{failed, passed}
 use borrow.Author.Needs.{needs}
 use Rattle.codes.proofs.unlisted_code.Statement.{statement}
 use Rattle.codes.proofs.unlisted_code.Tie as tie

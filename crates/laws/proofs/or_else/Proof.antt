@@ -1,6 +1,6 @@
 use borrow.Author.Needs.{needs}
 use native.Mathlib.Omega.{arith}
-use Rattle.laws.specs.Checks.{or-number}
+use Rattle.laws.specs.CheckLaws.{or-number}
 use Rattle.laws.proofs.or_else.Statement.{statement}
 use Rattle.laws.proofs.or_else.Tie as tie
 

@@ -1,5 +1,6 @@
 use Rattle.pairing.specs.Rules.{partsOf, debitVertical, creditVertical, timeSpread, twoShort, conversion, calendar, betweenProducts}
-use Rattle.laws.specs.Kinds.{byKind, no-kind}
+use Rattle.laws.specs.Kinds.{byKind}
+use Rattle.laws.specs.KindLaws.{no-kind}
 use mathlib.Core.Path.{sym, _∙_}
 use borrow.Author.Needs.{needs}
 use Rattle.pairing.proofs.parts_of.Statement.{statement}

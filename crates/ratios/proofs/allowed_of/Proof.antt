@@ -1,5 +1,6 @@
 use Rattle.ratios.specs.Ratios.{ratios, names, lineAllows, ownAllows, allowedOf}
-use Rattle.laws.specs.Search.{firstWhere, found-here, not-here, none-left}
+use Rattle.laws.specs.Search.{firstWhere}
+use Rattle.laws.specs.SearchLaws.{found-here, not-here, none-left}
 use lib.ListN.{drop}
 use mathlib.Core.Path.{_≡_, refl, sym, _∙_}
 use Prim.Native.Nat.{_≤_, _-_}
