@@ -22,7 +22,7 @@ use Rattle.series.specs.declared.Nature.the-variants.{Future, Call, Put}
 use Rattle.series.specs.Natures.{isFuture, isCall, isPut, strikeOf}
 use Rattle.legs.specs.Legs.{couple, twoProducts, callThenPut, oneCallOnePut, futureThenOption, debitStrikes}
 use Rattle.pairing.specs.declared.Parts.{Parts}
-use Rattle.pairing.specs.declared.Side.the-variants.{Long, Short}
+use Rattle.series.specs.declared.Side.the-variants.{Long, Short}
 use Rattle.pairing.specs.Rules.{debitVertical, creditVertical, timeSpread, twoShort, futureWithOption, conversion, calendar, betweenProducts, noRule, partsOf, pairChecks, pairNumber, mayStand}
 use Rattle.pairing.specs.Sides.{firstSide, secondSide}
 

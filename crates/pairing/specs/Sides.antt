@@ -4,8 +4,8 @@ use lib.Dec.{eqb}
 use Rattle.laws.specs.Truth.{pick}
 use Rattle.series.specs.declared.Series.{Series}
 use Rattle.series.specs.Natures.{isPut}
-use Rattle.pairing.specs.declared.Side.{Side}
-use Rattle.pairing.specs.declared.Side.the-variants.{Long, Short}
+use Rattle.series.specs.declared.Side.{Side}
+use Rattle.series.specs.declared.Side.the-variants.{Long, Short}
 
 -- kind 4 is short, then short; kind 5 a long future with calls, a short future with puts; every other kind long, then short
 unfoldable pub firstSide : ℕ → Series → Side

@@ -4,11 +4,7 @@ ghost use Rattle.pairing.specs.Rules.{rule, futureWithOption, noRule, pa
 ghost use Rattle.pairing.specs.Sides.{firstSide, secondSide};
 ghost use Rattle.laws.specs.Checks.{firstFailing};
 use series::Series;
-
-pub enum Side {
-    Long,
-    Short,
-}
+use series::Side;
 
 // Which parts of its kind's rule a pair meets.
 pub struct Parts {

@@ -9,9 +9,9 @@
 ghost use Prim.Native.Nat.{_≤_};
 ghost use lib.ListN.{length};
 use laws::Order;
-use pairing::Side;
 use series::Nature;
 use series::Series;
+use series::Side;
 
 // A number that was read, and where the next field begins.
 struct NumberField {

@@ -20,6 +20,12 @@ pub struct Series {
     pub nature: Nature,
 }
 
+// The two sides on which lots of a series are held.
+pub enum Side {
+    Long,
+    Short,
+}
+
 fn strike_fits(strike: u32) -> bool
     ensures { λ r. ⌜ r ≡ strikeFits strike ⌝ }
 {
