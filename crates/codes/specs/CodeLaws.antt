@@ -1,7 +1,7 @@
 -- Laws of codes: what a test of a code says, and that a code which stands for something is three bytes.
 use mathlib.Core.Path.{_≡_, refl}
 use mathlib.Core.Bool.{Bool, true, false}
-use mathlib.Core.List.{List}
+use mathlib.Core.List.{List, map}
 use Prim.Native.Nat.{ℕ, _<_}
 use native.Mathlib.Omega.{arith}
 use lib.Dec.{eqb, ltb}
@@ -12,7 +12,7 @@ use Rattle.laws.specs.TruthLaws.{both-true, within-true, clash}
 use Rattle.laws.specs.Text.{byte}
 use Rattle.laws.specs.Bytes.{sameBytes}
 use Rattle.laws.specs.ByteLaws.{are-same}
-use Rattle.laws.specs.Search.{everyLine}
+use Rattle.laws.specs.Search.{firstWhere, everyLine}
 use Rattle.laws.specs.SearchLaws.{found-has}
 use Rattle.codes.specs.declared.Class.the-variants.{StockFuture, StockOption}
 use Rattle.codes.specs.declared.Product.{Product}
@@ -71,3 +71,8 @@ known-three code =
     found-has (λ (p : Product). known (p .class) ≡ true → ThreeBytes code) (λ (p : Product). sameBytes code (p .code)) (λ (p : Product). isThree (p .code)) (λ (p : Product). p) (unlisted code) listed all-three
     (λ p t e k. rw (are-same code (p .code) e) (is-three (p .code) t))
     (unlisted-three code)
+
+-- Each of the sixteen stands for its own line: none hides another.
+pub listed-stand : map (λ (p : Product). productOf (p .code)) listed ≡ listed
+unfolding productOf listed firstWhere sameBytes
+listed-stand = refl

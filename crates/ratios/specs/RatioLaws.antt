@@ -1,12 +1,13 @@
 -- Laws of the table of ratios.
 use mathlib.Core.Path.{_≡_, refl}
 use mathlib.Core.Bool.{Bool, true}
+use mathlib.Core.List.{map}
 use Rattle.laws.specs.Truth.{both}
 use Rattle.laws.specs.Bytes.{sameBytes}
 use Rattle.laws.specs.Search.{firstWhere, everyLine}
 use Rattle.codes.specs.Codes.{listed, productOf, isFutureClass, isOptionClass}
 use Rattle.ratios.specs.declared.RatioLine.{RatioLine}
-use Rattle.ratios.specs.Ratios.{ratios}
+use Rattle.ratios.specs.Ratios.{ratios, names, lineAllows, allowedOf}
 
 -- a line couples a future with an option that has the same full-size future behind it
 unfoldable pub oneFamily : RatioLine → Bool
@@ -18,3 +19,8 @@ oneFamily l =
 pub one-family : everyLine oneFamily ratios ≡ true
 unfolding everyLine oneFamily ratios productOf listed firstWhere sameBytes
 one-family = refl
+
+-- Each line rules the couple that it names: none hides another.
+pub lines-stand : map (λ (l : RatioLine). allowedOf (l .future) (l .option)) ratios ≡ map lineAllows ratios
+unfolding allowedOf ratios names firstWhere sameBytes
+lines-stand = refl
