@@ -55,10 +55,6 @@ pub same-says : (m n : ℕ) → orderOf m n ≡ Same → m ≡ n
 same-says m n =
     split (λ (o : Order). o ≡ Same → m ≡ n) m n (λ h e. apart e (λ q. omega arith)) (λ h e. h) (λ h e. apart e (λ q. omega arith))
 
-pub more-says : (m n : ℕ) → orderOf m n ≡ More → n < m
-more-says m n =
-    split (λ (o : Order). o ≡ More → n < m) m n (λ h e. apart e (λ q. omega arith)) (λ h e. apart e (λ q. omega arith)) (λ h e. h)
-
 -- An order by two keys: the same where both are, and keys after keys may be bracketed either way.
 pub both-same : (o p : Order) → thenBy o p ≡ Same → (o ≡ Same) × (p ≡ Same)
 both-same Less p e = apart e (λ q. omega arith)

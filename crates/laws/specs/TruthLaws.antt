@@ -19,10 +19,6 @@ failed e h = sym e ∙ not-true _ h
 pub passed : {x t : Bool} → x ≡ t → not x ≡ false → t ≡ true
 passed e h = sym e ∙ not-false _ h
 
-pub false-unless : (b : Bool) → (b ≡ true → ⊥) → b ≡ false
-false-unless true h = absurd (h refl)
-false-unless false h = refl
-
 -- Where both hold, each holds.
 pub both-true : (x y : Bool) → both x y ≡ true → (x ≡ true) × (y ≡ true)
 both-true true y e = (refl, e)
