@@ -1,6 +1,7 @@
 // Answers the cases of standard input, one to a line, and prints each line with its answer; the file `stdout` says what
 // that must be. Fields are parted by tabs. SERIES is code, date, nature letter, strike.
 //   D date                          the number: 0 for a day, else 5
+//   C code                          its class, its parent and its part of the parent
 //   S SERIES                        the number: 4, 5, 2 or 0
 //   O SERIES SERIES                 the first is before, same or after
 //   M kind SERIES SERIES r1 r2      the number; the parts of the rule by letter (kind, codes, natures, dates, strikes,
@@ -8,6 +9,7 @@
 // Any other line is printed as it stands.
 ghost use Prim.Native.Nat.{_≤_};
 ghost use lib.ListN.{length};
+use codes::Class;
 use laws::Order;
 use series::Nature;
 use series::Series;
@@ -125,6 +127,39 @@ fn answer_date(line: &[u8]) {
     put_number(laws::unless(5, dates::is_day(date.value), 0));
 }
 
+fn put_class(class: Class) {
+    match class {
+        Class::Unknown => put(b"\tunknown"),
+        Class::ListedFuture => put(b"\tlisted future"),
+        Class::ListedOption => put(b"\tlisted option"),
+        Class::StockFuture => put(b"\tstock future"),
+        Class::StockOption => put(b"\tstock option"),
+    }
+}
+
+// A code's letters, without the 0 bytes behind them.
+fn put_code(code: [u8; 3]) {
+    put(b"\t");
+    if code[0] != 0 {
+        put(&[code[0], code[1]]);
+    }
+    if code[2] != 0 {
+        put(&[code[2]]);
+    }
+}
+
+fn answer_code(line: &[u8]) {
+    let f = code_at(line, 2);
+    let code = f.code;
+    let product = codes::product_of(code);
+    let class = product.class;
+    let parent = product.parent;
+    put_class(class);
+    put_code(parent);
+    put(b"\t");
+    io::print_decimal(1, product.part as u64);
+}
+
 fn answer_series(line: &[u8]) {
     let f = series_at(line, 2);
     let s = f.series;
@@ -176,6 +211,7 @@ fn answer(line: &[u8]) {
         let letter = line[0];
         match letter {
             b'D' => answer_date(line),
+            b'C' => answer_code(line),
             b'S' => answer_series(line),
             b'O' => answer_order(line),
             b'M' => answer_pair(line),
