@@ -1,5 +1,5 @@
 -- Laws of the search of a table: those by which a loop finds the line, and what is known of what is found.
-use mathlib.Core.Path.{_≡_}
+use mathlib.Core.Path.{_≡_, refl}
 use mathlib.Core.Bool.{Bool, true, false}
 use mathlib.Core.List.{List, [], _∷_}
 use Prim.Native.Nat.{ℕ, _+_, _≤_, _<_}
@@ -9,19 +9,26 @@ use lib.Seq.{drop-cons}
 use Rattle.laws.specs.TruthLaws.{both-true, picked}
 use Rattle.laws.specs.Search.{firstWhere, everyLine}
 
--- The search from line i on: what the test says of line i ends it or moves it on by one.
-module _ {A B : Type 0} (named : A → Bool) (made : A → B) (none : B) (ls : List A) (i : ℕ) {w : B} (known : firstWhere named made none (drop i ls) ≡ w) where
+-- A loop over a table has come to line i, and what it seeks is w.
+pub record Searching {A B : Type 0} (named : A → Bool) (made : A → B) (none w : B) (ls : List A) (i : ℕ) : Type 0 where
+  pub goes : firstWhere named made none (drop i ls) ≡ w
+
+pub starts : {A B : Type 0} (named : A → Bool) (made : A → B) (none : B) (ls : List A) → Searching named made none (firstWhere named made none ls) ls 0
+starts named made none ls = record { goes = refl }
+
+-- What the test says of line i ends the search or moves it on by one.
+module _ {A B : Type 0} {named : A → Bool} {made : A → B} {none w : B} {ls : List A} {i : ℕ} (s : Searching named made none w ls i) where
   pub found-here : (d : A) → i < length ls → named (getD ls i d) ≡ true → made (getD ls i d) ≡ w
   unfolding firstWhere
-  found-here d h e = simp e at (rw (drop-cons ls i d h) at known)
+  found-here d h e = simp e at (rw (drop-cons ls i d h) at (s .goes))
 
-  pub not-here : (d : A) → i < length ls → named (getD ls i d) ≡ false → firstWhere named made none (drop (i + 1) ls) ≡ w
+  pub not-here : (d : A) → i < length ls → named (getD ls i d) ≡ false → Searching named made none w ls (i + 1)
   unfolding firstWhere
-  not-here d h e = rw add-one (simp e at (rw (drop-cons ls i d h) at known))
+  not-here d h e = record { goes = rw add-one (simp e at (rw (drop-cons ls i d h) at (s .goes))) }
 
   pub none-left : length ls ≤ i → none ≡ w
   unfolding firstWhere
-  none-left h = simp (drop-of-length-le ls h) at known
+  none-left h = simp (drop-of-length-le ls h) at (s .goes)
 
 -- What holds of each line that is named, and where none is, holds of what is found. The test is of the table alone.
 module _ {A B : Type 0} (P : B → Type 0) (named test : A → Bool) (made : A → B) (none : B) where

@@ -1,41 +1,33 @@
-use Rattle.ratios.specs.Ratios.{ratios, names, lineAllows, ownAllows, allowedOf}
-use Rattle.laws.specs.Search.{firstWhere}
-use Rattle.laws.specs.SearchLaws.{found-here, not-here, none-left}
-use lib.ListN.{drop}
-use mathlib.Core.Path.{_≡_, refl, sym, _∙_}
-use Prim.Native.Nat.{_≤_, _-_}
+use mathlib.Core.Path.{sym, _∙_}
+use Prim.Native.Nat.{_-_}
 use native.Mathlib.Omega.{arith}
 use borrow.Author.Needs.{needs}
+use Rattle.laws.specs.SearchLaws.{Searching, starts, found-here, not-here, none-left}
+use Rattle.ratios.specs.Ratios.{ratios, names, lineAllows, ownAllows, allowedOf}
 use Rattle.ratios.proofs.allowed_of.Statement.{statement}
 use Rattle.ratios.proofs.allowed_of.Tie as tie
 
 abbrev Inv-loop : tie.InvT-loop
-Inv-loop f o i₀ i = (i ≤ 8) × (firstWhere (names f o) lineAllows (ownAllows f o) (drop i ratios) ≡ allowedOf f o)
+Inv-loop f o i₀ i = Searching (names f o) lineAllows (ownAllows f o) (allowedOf f o) ratios i
 
 abbrev μ-loop : tie.MeasureT-loop
 μ-loop f o i₀ i = 8 - i
 
 loop-holds : tie.Need-loop-holds Inv-loop μ-loop
 unfolding allowedOf
-loop-holds c = (omega arith, refl)
+loop-holds c = starts _ _ _ _
 
 returns : tie.Need-returns Inv-loop μ-loop
 unfolding ratios
-returns c =
-    let l = c .before .before .before .before .before .loop in
-    c .line-allows .ensures ∙ found-here _ _ _ ratios (l .i) (l .inv .1) _ (omega arith) (sym (c .before .before .is-named .ensures) ∙ c .before .if1 .taken)
+returns c = c .line-allows .ensures ∙ found-here (c .before .before .before .before .before .loop .inv) _ (omega arith) (sym (c .before .before .is-named .ensures) ∙ c .before .if1 .taken)
 
 loop-again : tie.Need-loop-again Inv-loop μ-loop
 unfolding ratios
-loop-again c =
-    let l = c .before .before .before .before .loop in
-    (omega arith, not-here _ _ _ ratios (l .i) (l .inv .1) _ (omega arith) (sym (c .before .is-named .ensures) ∙ c .if1 .left))
+loop-again c = not-here (c .before .before .before .before .loop .inv) _ (omega arith) (sym (c .before .is-named .ensures) ∙ c .if1 .left)
 
 returns-2 : tie.Need-returns-2 Inv-loop μ-loop
 unfolding ratios
-returns-2 c =
-    let l = c .before .before .loop in
-    c .own-allows .ensures ∙ none-left _ _ _ ratios (l .i) (l .inv .1) (omega arith)
+returns-2 c = c .own-allows .ensures ∙ none-left (c .before .before .loop .inv) (omega arith)
 
 pub allowed-of-spec : {M : Type 1} → statement M
 allowed-of-spec =
