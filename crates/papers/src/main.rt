@@ -1,28 +1,26 @@
 // Answers the cases of standard input, one to a line, and prints each line with its answer; the file `stdout` says what
 // that must be. Fields are parted by tabs. SERIES is code, date, nature letter, strike.
-//   D date                          the number: 0 for a day, else 5
-//   C code                          its class, its parent and its part of the parent
-//   S SERIES                        the number: 4, 5, 2 or 0
-//   O SERIES SERIES                 the first is before, same or after
-//   M kind SERIES SERIES r1 r2      the number; the parts of the rule by letter (kind, codes, natures, dates, strikes,
-//                                   ratio), - for one that fails; the sides of the first and the second leg
+//   D date                       the number: 0 for a day, else 5
+//   C code                       F listed future, O listed option, f stock future, o stock option, - unknown; its parent;
+//                                its part of the parent
+//   S SERIES                     the number: 4, 5, 2 or 0
+//   O SERIES SERIES              < where the first comes before the second, = or >
+//   M kind SERIES SERIES r1 r2   the number; the parts of the rule by letter (kind, codes, natures, dates, strikes, ratio),
+//                                - for one that fails; the sides of the first and the second leg, L or S
 // Any other line is printed as it stands.
 ghost use Prim.Native.Nat.{_≤_};
 ghost use lib.ListN.{length};
 use codes::Class;
 use laws::Order;
+use pairing::Parts;
 use series::Nature;
 use series::Series;
 use series::Side;
 
-// A number that was read, and where the next field begins.
-struct NumberField {
+// A field that was read, as letters and as a number, and where the next one begins.
+struct Field {
+    letters: [u8; 3],
     value: u32,
-    next: usize,
-}
-
-struct CodeField {
-    code: [u8; 3],
     next: usize,
 }
 
@@ -31,45 +29,34 @@ struct SeriesField {
     next: usize,
 }
 
-// The digits from `at` on, up to the byte that ends them.
-fn number_at(line: &[u8], at: usize) -> NumberField {
+// The field from `at` on, up to a tab: its first three letters, with zeros behind them, and the number that its digits are.
+fn field_at(line: &[u8], at: usize) -> Field {
+    let mut letters = [0u8; 3];
     let mut value: u64 = 0;
+    let mut k: usize = 0;
     let mut i = at;
     while i < line.len() {
-        let digit = line[i];
+        let b = line[i];
         i += 1;
-        if digit < b'0' {
-            return NumberField {
+        if b == b'\t' {
+            return Field {
+                letters,
                 value: (value % 4294967296) as u32,
                 next: i,
             };
         }
-        value = value % 1000000000000 * 10 + ((digit - b'0') % 10) as u64;
-    }
-    NumberField {
-        value: (value % 4294967296) as u32,
-        next: i,
-    }
-}
-
-// The letters from `at` on, up to a tab: the first three of them, zeros after the last.
-fn code_at(line: &[u8], at: usize) -> CodeField {
-    let mut code = [0u8; 3];
-    let mut k: usize = 0;
-    let mut i = at;
-    while i < line.len() {
-        let letter = line[i];
-        i += 1;
-        if letter == b'\t' {
-            return CodeField { code, next: i };
-        }
+        value = value % 1000000000000 * 10 + (b % 16) as u64;
         if k == 3 {
             continue;
         }
-        code[k] = letter;
+        letters[k] = b;
         k += 1;
     }
-    CodeField { code, next: i }
+    Field {
+        letters,
+        value: (value % 4294967296) as u32,
+        next: i,
+    }
 }
 
 fn nature_of(letter: u8, strike: u32) -> Nature {
@@ -81,12 +68,12 @@ fn nature_of(letter: u8, strike: u32) -> Nature {
 }
 
 fn series_at(line: &[u8], at: usize) -> SeriesField {
-    let code = code_at(line, at);
-    let date = number_at(line, code.next);
-    let letter = code_at(line, date.next);
-    let strike = number_at(line, letter.next);
-    let letters = letter.code;
-    let spelled = code.code;
+    let code = field_at(line, at);
+    let date = field_at(line, code.next);
+    let letter = field_at(line, date.next);
+    let strike = field_at(line, letter.next);
+    let letters = letter.letters;
+    let spelled = code.letters;
     let nature = nature_of(letters[0], strike.value);
     SeriesField {
         series: Series {
@@ -107,33 +94,30 @@ fn put_number(n: u8) {
     io::print_decimal(1, n as u64);
 }
 
-fn put_part(met: bool, letter: u8) {
-    if met {
-        put(&[letter]);
-    } else {
-        put(b"-");
-    }
+// The letter of a part that is met, else a dash.
+fn part_letter(met: bool, letter: u8) -> u8 {
+    if met { letter } else { b'-' }
 }
 
-fn put_side(side: Side) {
+fn side_letter(side: Side) -> u8 {
     match side {
-        Side::Long => put(b"L"),
-        Side::Short => put(b"S"),
+        Side::Long => b'L',
+        Side::Short => b'S',
     }
 }
 
 fn answer_date(line: &[u8]) {
-    let date = number_at(line, 2);
+    let date = field_at(line, 2);
     put_number(laws::unless(5, dates::is_day(date.value), 0));
 }
 
-fn put_class(class: Class) {
+fn class_letter(class: Class) -> u8 {
     match class {
-        Class::Unknown => put(b"\tunknown"),
-        Class::ListedFuture => put(b"\tlisted future"),
-        Class::ListedOption => put(b"\tlisted option"),
-        Class::StockFuture => put(b"\tstock future"),
-        Class::StockOption => put(b"\tstock option"),
+        Class::Unknown => b'-',
+        Class::ListedFuture => b'F',
+        Class::ListedOption => b'O',
+        Class::StockFuture => b'f',
+        Class::StockOption => b'o',
     }
 }
 
@@ -149,12 +133,12 @@ fn put_code(code: [u8; 3]) {
 }
 
 fn answer_code(line: &[u8]) {
-    let f = code_at(line, 2);
-    let code = f.code;
+    let f = field_at(line, 2);
+    let code = f.letters;
     let product = codes::product_of(code);
     let class = product.class;
     let parent = product.parent;
-    put_class(class);
+    put(&[b'\t', class_letter(class)]);
     put_code(parent);
     put(b"\t");
     io::print_decimal(1, product.part as u64);
@@ -166,43 +150,50 @@ fn answer_series(line: &[u8]) {
     put_number(series::series_number(s));
 }
 
+fn order_letter(order: Order) -> u8 {
+    match order {
+        Order::Less => b'<',
+        Order::Same => b'=',
+        Order::More => b'>',
+    }
+}
+
 fn answer_order(line: &[u8]) {
     let f = series_at(line, 2);
     let g = series_at(line, f.next);
     let a = f.series;
     let b = g.series;
-    let order = series::compare(a, b);
-    match order {
-        Order::Less => put(b"\tbefore"),
-        Order::Same => put(b"\tsame"),
-        Order::More => put(b"\tafter"),
-    }
+    put(&[b'\t', order_letter(series::compare(a, b))]);
 }
 
-fn put_parts(kind: u32, a: Series, b: Series, r1: u32, r2: u32) {
-    let parts = pairing::parts_of(kind, a, b, r1, r2);
-    put(b"\t");
-    put_part(parts.kind, b'k');
-    put_part(parts.codes, b'c');
-    put_part(parts.natures, b'n');
-    put_part(parts.dates, b'd');
-    put_part(parts.strikes, b's');
-    put_part(parts.ratio, b'r');
+fn put_parts(parts: Parts) {
+    put(
+        &[
+            b'\t',
+            part_letter(parts.kind, b'k'),
+            part_letter(parts.codes, b'c'),
+            part_letter(parts.natures, b'n'),
+            part_letter(parts.dates, b'd'),
+            part_letter(parts.strikes, b's'),
+            part_letter(parts.ratio, b'r'),
+        ],
+    );
 }
 
 fn answer_pair(line: &[u8]) {
-    let kind = number_at(line, 2);
+    let kind = field_at(line, 2);
     let f = series_at(line, kind.next);
     let g = series_at(line, f.next);
-    let r1 = number_at(line, g.next);
-    let r2 = number_at(line, r1.next);
+    let r1 = field_at(line, g.next);
+    let r2 = field_at(line, r1.next);
+    let k = kind.value;
     let a = f.series;
     let b = g.series;
-    put_number(pairing::pair_number(kind.value, a, b, r1.value, r2.value));
-    put_parts(kind.value, a, b, r1.value, r2.value);
-    put(b"\t");
-    put_side(pairing::first_side(kind.value, b));
-    put_side(pairing::second_side(kind.value));
+    put_number(pairing::pair_number(k, a, b, r1.value, r2.value));
+    put_parts(pairing::parts_of(k, a, b, r1.value, r2.value));
+    let first = side_letter(pairing::first_side(k, b));
+    let second = side_letter(pairing::second_side(k));
+    put(&[b'\t', first, second]);
 }
 
 fn answer(line: &[u8]) {
