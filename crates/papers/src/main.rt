@@ -7,11 +7,26 @@
 //   O SERIES SERIES              < where the first comes before the second, = or >
 //   M kind SERIES SERIES r1 r2   the number; the parts of the rule by letter (kind, codes, natures, dates, strikes, ratio),
 //                                - for one that fails; the sides of the first and the second leg, L or S
+//   F clearing part              a fixed future: the number; clearing, maintenance, initial
+//   R rate disposition           a stock's rates: the number; clearing, maintenance, initial
+//   I kind r1 r2 charged clearing OLINE LOT LOT
+//                                a unit of a pair of an index; the clearing margin is that of its full-size future
+//   J kind r1 r2 charged SLINE LOT LOT
+//                                a unit of a pair of a stock
+// OLINE and SLINE are a sheet's line without letter and code. LOT is a nature (0 future, 1 call, 2 put), a strike (of an index
+// future: its part) and a price. Printed are of each lot the number, the three margins and the premium value; the terms' number,
+// the tenth and the three C; the unit's number and its three margins.
 // Any other line is printed as it stands.
 ghost use Prim.Native.Nat.{_≤_};
 ghost use lib.ListN.{length};
+use amounts::IndexLine;
+use amounts::Lot;
+use amounts::StockLine;
+use amounts::Terms;
 use codes::Class;
 use laws::Order;
+use levels::Answer;
+use levels::Levels;
 use pairing::Parts;
 use series::Nature;
 use series::Series;
@@ -27,6 +42,13 @@ struct Field {
 struct SeriesField {
     series: Series,
     next: usize,
+}
+
+// The lots and terms of a unit that is asked for.
+struct Unit {
+    first: Lot,
+    second: Lot,
+    terms: Terms,
 }
 
 // The field from `at` on, up to a tab: its first three letters, with zeros behind them, and the number that its digits are.
@@ -196,6 +218,142 @@ fn answer_pair(line: &[u8]) {
     put(&[b'\t', first, second]);
 }
 
+// The fields behind the letter, as numbers; those that are not there are 0.
+fn numbers(line: &[u8]) -> [u32; 24] {
+    let mut n = [0u32; 24];
+    let mut at: usize = 2;
+    let mut k: usize = 0;
+    while k < 24 {
+        let f = field_at(line, at);
+        n[k] = f.value;
+        at = f.next;
+        k += 1;
+    }
+    n
+}
+
+fn levels_of(clearing: u32, maintenance: u32, initial: u32) -> Levels {
+    Levels {
+        clearing: clearing as u64,
+        maintenance: maintenance as u64,
+        initial: initial as u64,
+    }
+}
+
+fn index_line(n: [u32; 24]) -> IndexLine {
+    IndexLine {
+        multiplier: n[5],
+        a: levels_of(n[6], n[7], n[8]),
+        b: levels_of(n[9], n[10], n[11]),
+        c: levels_of(n[12], n[13], n[14]),
+        underlying: n[15],
+    }
+}
+
+fn stock_line(n: [u32; 24]) -> StockLine {
+    StockLine {
+        shares: n[4],
+        future: n[5],
+        option: n[6],
+        c: levels_of(n[7], n[8], n[9]),
+        disposition: n[10],
+        price: n[11],
+    }
+}
+
+fn index_lot(o: IndexLine, clearing: u32, nature: u32, strike: u32, price: u32) -> Lot {
+    match nature {
+        0 => amounts::fixed_future(clearing, strike),
+        _ => amounts::index_option(o, nature == 1, strike, price),
+    }
+}
+
+fn stock_lot(s: StockLine, nature: u32, strike: u32, price: u32) -> Lot {
+    match nature {
+        0 => amounts::stock_future(s, price),
+        _ => amounts::stock_option(s, nature == 1, strike, price),
+    }
+}
+
+fn index_unit(n: [u32; 24]) -> Unit {
+    let o = index_line(n);
+    Unit {
+        first: index_lot(o, n[4], n[16], n[17], n[18]),
+        second: index_lot(o, n[4], n[19], n[20], n[21]),
+        terms: amounts::index_terms(o, n[4]),
+    }
+}
+
+fn stock_unit(n: [u32; 24]) -> Unit {
+    let s = stock_line(n);
+    Unit {
+        first: stock_lot(s, n[12], n[13], n[14]),
+        second: stock_lot(s, n[15], n[16], n[17]),
+        terms: amounts::stock_terms(s),
+    }
+}
+
+fn put_amount(n: u64) {
+    put(b"\t");
+    io::print_decimal(1, n);
+}
+
+fn put_levels(l: Levels) {
+    put_amount(l.clearing);
+    put_amount(l.maintenance);
+    put_amount(l.initial);
+}
+
+fn put_answer(a: Answer) {
+    put_number(a.number);
+    let l = a.levels;
+    put_levels(l);
+}
+
+fn put_lot(l: Lot) {
+    put_number(l.number);
+    let m = l.margin;
+    put_levels(m);
+    put_amount(l.premium);
+}
+
+fn put_terms(t: Terms) {
+    put_number(t.number);
+    put_amount(t.tenth);
+    let c = t.c;
+    put_levels(c);
+}
+
+fn put_unit(kind: u32, r1: u32, r2: u32, charged: bool, unit: Unit) {
+    let first = unit.first;
+    let second = unit.second;
+    let terms = unit.terms;
+    put_lot(first);
+    put_lot(second);
+    put_terms(terms);
+    put_answer(units::unit_margin(kind, first, second, terms, r1, r2, charged));
+}
+
+fn answer_fixed(line: &[u8]) {
+    let n = numbers(line);
+    put_answer(levels::fixed_levels(n[0], n[1]));
+}
+
+fn answer_rates(line: &[u8]) {
+    let n = numbers(line);
+    put_answer(levels::stock_rates(n[0], n[1]));
+}
+
+fn answer_index(line: &[u8]) {
+    let n = numbers(line);
+    put_unit(n[0], n[1], n[2], n[3] == 1, index_unit(n));
+}
+
+fn answer_stock(line: &[u8]) {
+    let n = numbers(line);
+    put_unit(n[0], n[1], n[2], n[3] == 1, stock_unit(n));
+}
+
 fn answer(line: &[u8]) {
     put(line);
     if 0 < line.len() {
@@ -206,6 +364,10 @@ fn answer(line: &[u8]) {
             b'S' => answer_series(line),
             b'O' => answer_order(line),
             b'M' => answer_pair(line),
+            b'F' => answer_fixed(line),
+            b'R' => answer_rates(line),
+            b'I' => answer_index(line),
+            b'J' => answer_stock(line),
             _ => {}
         }
     }

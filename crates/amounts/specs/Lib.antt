@@ -1,0 +1,5 @@
+pub mod Lines
+pub mod LineLaws
+pub mod Singles
+pub mod Lots
+pub mod AmountLaws

@@ -1,0 +1,61 @@
+-- Document 01, "Rates and amounts": one lot of each family, and what the pairs of an option code use.
+use mathlib.Core.Bool.{Bool}
+use Prim.Native.Nat.{ℕ, _/_}
+use Rattle.laws.specs.Truth.{pick}
+use Rattle.rounding.specs.Rounding.{toDollar}
+use Rattle.levels.specs.Levels.{perLevel, flat, fixedLevels}
+use Rattle.amounts.specs.declared.IndexLine.{IndexLine}
+use Rattle.amounts.specs.declared.StockLine.{StockLine}
+use Rattle.amounts.specs.declared.Lot.{Lot}
+use Rattle.amounts.specs.declared.Terms.{Terms}
+use Rattle.amounts.specs.Lines.{stockFits, futureAsked, indexAsked, stockAsked, termsAsked}
+use Rattle.amounts.specs.Singles.{portion, premiumValue, indexMargin, stockMargin, futureMargin}
+
+-- A value outside its range or off its step: 2, and zeros.
+abbrev pub refusedLot : Lot
+refusedLot = record { number = 2; margin = flat 0; premium = 0; price = 0; strike = 0 }
+
+abbrev pub refusedTerms : Terms
+refusedTerms = record { number = 2; multiplier = 0; tenth = 0; c = flat 0 }
+
+-- A fixed future, from the full-size future's clearing amount and the part that it is of it.
+unfoldable pub fixedFuture : ℕ → ℕ → Lot
+fixedFuture clearing part =
+    record { number = fixedLevels clearing part .number; margin = fixedLevels clearing part .levels; premium = 0; price = 0; strike = 0 }
+
+unfoldable pub stockFuture : StockLine → ℕ → Lot
+stockFuture s price =
+    pick (futureAsked s price)
+    (record { number = 0; margin = futureMargin s price; premium = 0; price = 0; strike = 0 })
+    refusedLot
+
+-- A short option of an index, and of a stock.
+unfoldable pub indexOption : IndexLine → Bool → ℕ → ℕ → Lot
+indexOption o call strike price =
+    pick (indexAsked o strike price)
+    (record { number = 0; margin = indexMargin o call strike price; premium = premiumValue price (o .multiplier); price = price; strike = strike })
+    refusedLot
+
+unfoldable pub stockOption : StockLine → Bool → ℕ → ℕ → Lot
+stockOption s call strike price =
+    pick (stockAsked s strike price)
+    (record { number = 0; margin = stockMargin s call strike price; premium = premiumValue price (s .shares); price = price; strike = strike })
+    refusedLot
+
+-- "10 percent of the parent future's clearing margin; for a stock 10 percent of security value"; "C (stock: value x c)".
+unfoldable pub indexTerms : IndexLine → ℕ → Terms
+indexTerms o clearing =
+    pick (termsAsked o clearing)
+    (record { number = 0; multiplier = o .multiplier; tenth = clearing / 10; c = o .c })
+    refusedTerms
+
+unfoldable pub stockTerms : StockLine → Terms
+stockTerms s =
+    pick (stockFits s)
+    (record {
+      number = 0;
+      multiplier = s .shares;
+      tenth = toDollar (portion (s .price) (s .shares) 10000);
+      c = perLevel toDollar (perLevel (portion (s .price) (s .shares)) (s .c));
+    })
+    refusedTerms

@@ -1,0 +1,4 @@
+pub mod Limits
+pub mod Units
+pub mod LimitLaws
+pub mod UnitLaws

@@ -1,0 +1,169 @@
+-- Laws of units: the lots and terms of sound lines are taken, and how much a unit, a pair and an account can come to.
+use mathlib.Core.Path.{_≡_, refl}
+use mathlib.Core.Bool.{Bool, true}
+use Prim.Native.Nat.{ℕ, _+_, _*_, _^_, _-_, _≤_, _<_, max, min}
+use native.Mathlib.Nat.{mul-le-mul, max-le, add-mul, mul-right-comm}
+use native.Mathlib.Omega.{arith}
+use lib.Dec.{lit≤, lit<}
+use Rattle.laws.specs.KindLaws.{each-kind}
+use Rattle.rounding.specs.RoundingLaws.{dollar-most}
+use Rattle.levels.specs.declared.Levels.{Levels}
+use Rattle.levels.specs.Levels.{perLevel, flat, fixedLevels}
+use Rattle.levels.specs.Ranges.{fixedFits}
+use Rattle.levels.specs.RangeLaws.{AtMost, at-most-more, clearing-is}
+use Rattle.levels.specs.LevelLaws.{fixed-most}
+use Rattle.amounts.specs.declared.IndexLine.{IndexLine}
+use Rattle.amounts.specs.declared.StockLine.{StockLine}
+use Rattle.amounts.specs.declared.Lot.{Lot}
+use Rattle.amounts.specs.declared.Terms.{Terms}
+use Rattle.amounts.specs.Singles.{bothLevels, worth}
+use Rattle.amounts.specs.Lines.{stockFits, futureAsked, indexAsked, stockAsked, termsAsked}
+use Rattle.amounts.specs.LineLaws.{index-is, stock-is, option-is, future-asked-is, index-asked-is, stock-asked-is, terms-asked-is}
+use Rattle.amounts.specs.Lots.{fixedFuture, stockFuture, indexOption, stockOption, indexTerms, stockTerms}
+use Rattle.amounts.specs.AmountLaws.{worth-most, premium-most, future-most, index-most, stock-most, c-value-most, tenth-most}
+use Rattle.units.specs.Limits.{lotLimit, premiumLimit, cLimit, lotFits, termsFit}
+use Rattle.units.specs.Units.{debitMargin, creditMargin, timeMargin, mixedAt, mixedMargin, futureOptionMargin, conversionMargin, calendarMargin, productsMargin, formula}
+use Rattle.units.specs.LimitLaws.{LotFacts, UnitFacts, lot-fits, terms-fit, lower-most, charged-most}
+
+-- Every lot of a sound line is taken.
+pub fixed-lot : (clearing part : ℕ) → fixedFits clearing part ≡ true → lotFits (fixedFuture clearing part) ≡ true
+unfolding fixedFuture fixedLevels
+fixed-lot clearing part e =
+    rw e (lot-fits _ refl (record { margin-most = at-most-more (lit≤ tt) (fixed-most clearing part e); premium-most = lit≤ tt; price-most = lit≤ tt; strike-most = lit≤ tt }))
+
+pub stock-future-lot : (s : StockLine) (price : ℕ) → futureAsked s price ≡ true → lotFits (stockFuture s price) ≡ true
+unfolding stockFuture
+stock-future-lot s price e =
+    let h = future-asked-is s price e in
+    rw e (lot-fits _ refl (record { margin-most = at-most-more (lit≤ tt) (future-most s price (stock-is s (h .0)) (h .1)); premium-most = lit≤ tt; price-most = lit≤ tt; strike-most = lit≤ tt }))
+
+pub index-lot : (o : IndexLine) (call : Bool) (strike price : ℕ) → indexAsked o strike price ≡ true → lotFits (indexOption o call strike price) ≡ true
+unfolding indexOption
+index-lot o call strike price e =
+    let h = index-asked-is o strike price e in
+    let f = index-is o (h .0) in
+    let g = option-is strike price (h .1) in
+    rw e (lot-fits _ refl (record { margin-most = at-most-more (lit≤ tt) (index-most o call strike price f g); premium-most = premium-most price (o .multiplier) (g .value-most) (f .multiplier-most); price-most = g .value-most; strike-most = g .strike-most }))
+
+pub stock-lot : (s : StockLine) (call : Bool) (strike price : ℕ) → stockAsked s strike price ≡ true → lotFits (stockOption s call strike price) ≡ true
+unfolding stockOption
+stock-lot s call strike price e =
+    let h = stock-asked-is s strike price e in
+    let f = stock-is s (h .0) in
+    let g = option-is strike price (h .1) in
+    rw e (lot-fits _ refl (record { margin-most = stock-most s call strike price f g; premium-most = premium-most price (s .shares) (g .value-most) (f .shares-most); price-most = g .value-most; strike-most = g .strike-most }))
+
+-- And so are the terms.
+pub index-terms-taken : (o : IndexLine) (clearing : ℕ) → termsAsked o clearing ≡ true → termsFit (indexTerms o clearing) ≡ true
+unfolding indexTerms
+index-terms-taken o clearing e =
+    let h = terms-asked-is o clearing e in
+    let f = index-is o (h .0) in
+    let k = clearing-is clearing (h .1) .0 in
+    rw e (terms-fit _ refl (record { multiplier-most = f .multiplier-most; tenth-most = omega arith; c-most = at-most-more (lit≤ tt) (f .c-most) }))
+
+pub stock-terms-taken : (s : StockLine) → stockFits s ≡ true → termsFit (stockTerms s) ≡ true
+unfolding stockTerms
+stock-terms-taken s e =
+    let f = stock-is s e in
+    rw e (terms-fit _ refl (record { multiplier-most = f .shares-most; tenth-most = tenth-most s f; c-most = c-value-most s f }))
+
+flat-most : (n : ℕ) {most : ℕ} → n ≤ most → AtMost most (flat n)
+flat-most n h = record { at-clearing = h; at-maintenance = h; at-initial = h }
+
+mixed-at-most : (m1 v1 m2 v2 c : ℕ) → m1 ≤ lotLimit → v1 ≤ premiumLimit → m2 ≤ lotLimit → v2 ≤ premiumLimit → c ≤ cLimit → mixedAt m1 v1 m2 v2 c ≤ 8430000000
+unfolding mixedAt
+mixed-at-most m1 v1 m2 v2 c a b d e f = omega (arith, lower-most m1 v1 m2 v2 b e)
+
+mixed-most : (call put : Lot) (c : Levels) → LotFacts call → LotFacts put → AtMost cLimit c → AtMost 8430000000 (mixedMargin call put c)
+unfolding mixedMargin
+mixed-most call put c f g h =
+    let m = f .margin-most in
+    let n = g .margin-most in
+    let v = f .premium-most in
+    let w = g .premium-most in
+    record {
+      at-clearing = mixed-at-most _ _ _ _ _ (m .at-clearing) v (n .at-clearing) w (h .at-clearing);
+      at-maintenance = mixed-at-most _ _ _ _ _ (m .at-maintenance) v (n .at-maintenance) w (h .at-maintenance);
+      at-initial = mixed-at-most _ _ _ _ _ (m .at-initial) v (n .at-initial) w (h .at-initial);
+    }
+
+larger-most : (l m : Levels) {most : ℕ} → AtMost most l → AtMost most m → AtMost most (bothLevels max l m)
+larger-most l m h k =
+    record {
+      at-clearing = max-le (h .at-clearing) (k .at-clearing);
+      at-maintenance = max-le (h .at-maintenance) (k .at-maintenance);
+      at-initial = max-le (h .at-initial) (k .at-initial);
+    }
+
+module _ (first second : Lot) (terms : Terms) (r1 r2 : ℕ) (charged : Bool) (u : UnitFacts first second terms r1 r2) where
+  credit-most : AtMost 2000000000 (creditMargin (first .strike) (second .strike) (terms .multiplier))
+  unfolding creditMargin
+  credit-most =
+      let k1 = u .first-is .strike-most in
+      let k2 = u .second-is .strike-most in
+      flat-most _ (dollar-most _ 2000000000 (worth-most _ (terms .multiplier) (omega arith) (u .terms-is .multiplier-most)))
+
+  time-most : AtMost 4000000000 (timeMargin (terms .tenth) (first .price) (second .price) (terms .multiplier))
+  unfolding timeMargin
+  time-most =
+      let p1 = u .first-is .price-most in
+      let p2 = u .second-is .price-most in
+      let t = u .terms-is .tenth-most in
+      let w : worth (max (first .price) (second .price) - min (first .price) (second .price)) (terms .multiplier) ≤ 200000000000000000 = worth-most _ (terms .multiplier) (omega arith) (u .terms-is .multiplier-most) in
+      flat-most _ (max-le (omega arith) (dollar-most _ 4000000000 (omega arith)))
+
+  -- In every kind but 5 a unit comes to at most 8,430,000,000 dollars.
+  each-most : (P : Levels → Type 0) (kind : ℕ) → ((l : Levels) → AtMost 8430000000 l → P l) → P (futureOptionMargin r1 (first .margin) r2 (second .premium)) → P (formula kind first second terms r1 r2 charged)
+  unfolding formula debitMargin conversionMargin calendarMargin productsMargin
+  each-most P kind small five =
+      let m = u .first-is .margin-most in
+      let n = u .second-is .margin-most in
+      let larger = small _ (at-most-more (lit≤ tt) (larger-most (first .margin) (second .margin) m n)) in
+      each-kind _ _ _ _ _ _ _ _ _ P kind
+      (λ _. small _ (flat-most 0 (lit≤ tt)))
+      (λ _. small _ (at-most-more (lit≤ tt) credit-most))
+      (λ _. small _ (at-most-more (lit≤ tt) time-most))
+      (λ _. small _ (mixed-most first second _ (u .first-is) (u .second-is) (charged-most charged (terms .c) (u .terms-is .c-most))))
+      (λ _. five)
+      (λ _. small _ (at-most-more (lit≤ tt) n))
+      (λ _. larger)
+      (λ _. larger)
+      (small _ (flat-most 0 (lit≤ tt)))
+
+  -- With up to 100 lots to a unit on each leg, a unit comes to at most 643,000,000,000.
+  five-at : (m : ℕ) → m ≤ lotLimit → r1 * m + r2 * second .premium ≤ 643000000000
+  five-at m h = omega (arith, mul-le-mul (u .r1-most) h, mul-le-mul (u .r2-most) (u .second-is .premium-most))
+
+  pub unit-most : (kind : ℕ) → AtMost 643000000000 (formula kind first second terms r1 r2 charged)
+  unfolding futureOptionMargin
+  unit-most kind =
+      let m = u .first-is .margin-most in
+      each-most (AtMost 643000000000) kind (λ l h. at-most-more (lit≤ tt) h)
+      (record { at-clearing = five-at _ (m .at-clearing); at-maintenance = five-at _ (m .at-maintenance); at-initial = five-at _ (m .at-initial) })
+
+  -- All units of a pair, of which no leg has more than 100,000 lots, come to at most 843,000,000,000,000.
+  module _ (units : ℕ) (some : units ≤ 100000) (one : r1 * units ≤ 100000) (two : r2 * units ≤ 100000) where
+    times-units : (l : Levels) → AtMost 8430000000 l → AtMost 843000000000000 (perLevel (λ (m : ℕ). m * units) l)
+    times-units l h =
+        record { at-clearing = mul-le-mul (h .at-clearing) some; at-maintenance = mul-le-mul (h .at-maintenance) some; at-initial = mul-le-mul (h .at-initial) some }
+
+    five-units : (m : ℕ) → m ≤ lotLimit → (r1 * m + r2 * second .premium) * units ≤ 843000000000000
+    five-units m h =
+        rw (add-mul (r1 * m) (r2 * second .premium) units, mul-right-comm r1 m units, mul-right-comm r2 (second .premium) units)
+        (omega (arith, mul-le-mul one h, mul-le-mul two (u .second-is .premium-most)))
+
+    pub pair-most : (kind : ℕ) → AtMost 843000000000000 (perLevel (λ (m : ℕ). m * units) (formula kind first second terms r1 r2 charged))
+    unfolding futureOptionMargin
+    pair-most kind =
+        let m = u .first-is .margin-most in
+        each-most (λ (l : Levels). AtMost 843000000000000 (perLevel (λ (m : ℕ). m * units) l)) kind times-units
+        (record { at-clearing = five-units _ (m .at-clearing); at-maintenance = five-units _ (m .at-maintenance); at-initial = five-units _ (m .at-initial) })
+
+-- An account: 128 holdings, each of 100,000 lots on the short side of an option or on both sides of a future, and 128 pairs.
+pub accountLimit : ℕ
+accountLimit = 128 * (100000 * 4860000000) + 128 * 843000000000000
+
+pub account-fits : accountLimit < 2 ^ 64
+unfolding accountLimit
+account-fits = lit< tt
