@@ -1,7 +1,7 @@
 -- Laws of amounts: the largest that a lot of each family can come to, and that a tenth of a clearing margin is whole.
-use mathlib.Core.Path.{_≡_, refl}
+use mathlib.Core.Path.{_≡_, refl, ap}
 use mathlib.Core.Bool.{Bool, true}
-use Prim.Native.Nat.{ℕ, _+_, _-_, _*_, _/_, _≤_}
+use Prim.Native.Nat.{ℕ, _+_, _-_, _*_, _/_, _≤_, max}
 use native.Mathlib.Nat.{mul-le-mul}
 use native.Mathlib.Omega.{arith}
 use lib.Dec.{lit≤}
@@ -109,3 +109,10 @@ most-is-reached = refl
 -- 10 percent of a clearing margin is whole.
 pub tenth-whole : (clearing : ℕ) → clearingFits clearing ≡ true → clearing / 10 * 10 ≡ clearing
 tenth-whole clearing e = omega (arith, clearing-is clearing e .1)
+
+-- So far out of the money that A is used up, a short option costs its premium and B.
+pub far-out : (premium out a b : ℕ) → a ≤ out → single premium out a b ≡ toDollar (premium + b)
+unfolding single
+far-out premium out a b h =
+    let e : max (a - out) b ≡ b = omega arith in
+    ap (λ (x : ℕ). toDollar (premium + x)) e

@@ -8,7 +8,7 @@ ghost use Rattle.laws.specs.Truth.{pick};
 ghost use Rattle.rounding.specs.Rounding.{toDollar};
 ghost use Rattle.amounts.specs.Lines.{indexFits, stockFits, optionFits, futureAsked, indexAsked, stockAsked, termsAsked};
 ghost use Rattle.amounts.specs.Singles.{bothLevels, portion, dollars, premiumValue, outOfMoney, single, indexMargin, stockMargin, futureMargin};
-ghost use Rattle.amounts.specs.Lots.{refusedLot, refusedTerms, fixedFuture, stockFuture, indexOption, stockOption, indexTerms, stockTerms};
+ghost use Rattle.amounts.specs.Lots.{futureLot, optionLot, refusedLot, refusedTerms, fixedFuture, stockFuture, indexOption, stockOption, indexTerms, stockTerms};
 use levels::Levels;
 
 // What a sheet says of a listed option (its O line): A, B and C in dollars.
@@ -247,13 +247,7 @@ fn future_margin(s: StockLine, price: u32) -> Levels
 fn no_lot() -> Lot
     ensures { λ r. ⌜ r ≡ refusedLot ⌝ }
 {
-    Lot {
-        number: 2,
-        margin: levels::same_at_all(0),
-        premium: 0,
-        price: 0,
-        strike: 0,
-    }
+    future_lot(2, levels::same_at_all(0))
 }
 
 fn no_terms() -> Terms
@@ -267,14 +261,11 @@ fn no_terms() -> Terms
     }
 }
 
-// One lot of a fixed future, from the clearing amount of the full-size future and the part that it is of it.
-pub fn fixed_future(clearing: u32, part: u32) -> Lot
-    ensures { λ r. ⌜ r ≡ fixedFuture clearing part ⌝ }
+fn future_lot(number: u8, margin: Levels) -> Lot
+    ensures { λ r. ⌜ r ≡ futureLot number margin ⌝ }
 {
-    let worked = levels::fixed_levels(clearing, part);
-    let margin = worked.levels;
     Lot {
-        number: worked.number,
+        number,
         margin,
         premium: 0,
         price: 0,
@@ -282,18 +273,33 @@ pub fn fixed_future(clearing: u32, part: u32) -> Lot
     }
 }
 
+fn option_lot(margin: Levels, multiplier: u32, strike: u32, price: u32) -> Lot
+    ensures { λ r. ⌜ r ≡ optionLot margin multiplier strike price ⌝ }
+{
+    Lot {
+        number: 0,
+        margin,
+        premium: premium_value(price, multiplier),
+        price,
+        strike,
+    }
+}
+
+// One lot of a fixed future, from the clearing amount of the full-size future and the part that it is of it.
+pub fn fixed_future(clearing: u32, part: u32) -> Lot
+    ensures { λ r. ⌜ r ≡ fixedFuture clearing part ⌝ }
+{
+    let worked = levels::fixed_levels(clearing, part);
+    let margin = worked.levels;
+    future_lot(worked.number, margin)
+}
+
 // One lot of a stock future, from its own price.
 pub fn stock_future(s: StockLine, price: u32) -> Lot
     ensures { λ r. ⌜ r ≡ stockFuture s price ⌝ }
 {
     if future_asked(s, price) {
-        return Lot {
-            number: 0,
-            margin: future_margin(s, price),
-            premium: 0,
-            price: 0,
-            strike: 0,
-        };
+        return future_lot(0, future_margin(s, price));
     }
     no_lot()
 }
@@ -303,13 +309,12 @@ pub fn index_option(o: IndexLine, call: bool, strike: u32, price: u32) -> Lot
     ensures { λ r. ⌜ r ≡ indexOption o call strike price ⌝ }
 {
     if index_asked(o, strike, price) {
-        return Lot {
-            number: 0,
-            margin: index_margin(o, call, strike, price),
-            premium: premium_value(price, o.multiplier),
-            price,
+        return option_lot(
+            index_margin(o, call, strike, price),
+            o.multiplier,
             strike,
-        };
+            price,
+        );
     }
     no_lot()
 }
@@ -319,13 +324,12 @@ pub fn stock_option(s: StockLine, call: bool, strike: u32, price: u32) -> Lot
     ensures { λ r. ⌜ r ≡ stockOption s call strike price ⌝ }
 {
     if stock_asked(s, strike, price) {
-        return Lot {
-            number: 0,
-            margin: stock_margin(s, call, strike, price),
-            premium: premium_value(price, s.shares),
-            price,
+        return option_lot(
+            stock_margin(s, call, strike, price),
+            s.shares,
             strike,
-        };
+            price,
+        );
     }
     no_lot()
 }

@@ -1,10 +1,12 @@
 -- Laws of units: the lots and terms of sound lines are taken, and how much a unit, a pair and an account can come to.
 use mathlib.Core.Path.{_≡_, refl}
-use mathlib.Core.Bool.{Bool, true}
+use mathlib.Core.Bool.{Bool, true, false}
 use Prim.Native.Nat.{ℕ, _+_, _*_, _^_, _-_, _≤_, _<_, max, min}
-use native.Mathlib.Nat.{mul-le-mul, max-le, add-mul, mul-right-comm}
+use native.Mathlib.Nat.{mul-le-mul, max-le, max-comm, add-mul, mul-right-comm}
 use native.Mathlib.Omega.{arith}
-use lib.Dec.{lit≤, lit<}
+use lib.Dec.{ltb, lit≤, lit<}
+use borrow.Author.Tests.{ltb-true, le-ltb}
+use Rattle.laws.specs.Truth.{pick}
 use Rattle.laws.specs.KindLaws.{each-kind}
 use Rattle.rounding.specs.RoundingLaws.{dollar-most}
 use Rattle.levels.specs.declared.Levels.{Levels}
@@ -22,7 +24,7 @@ use Rattle.amounts.specs.LineLaws.{index-is, stock-is, option-is, future-asked-
 use Rattle.amounts.specs.Lots.{fixedFuture, stockFuture, indexOption, stockOption, indexTerms, stockTerms}
 use Rattle.amounts.specs.AmountLaws.{worth-most, premium-most, future-most, index-most, stock-most, c-value-most, tenth-most}
 use Rattle.units.specs.Limits.{lotLimit, premiumLimit, cLimit, lotFits, termsFit}
-use Rattle.units.specs.Units.{debitMargin, creditMargin, timeMargin, mixedAt, mixedMargin, futureOptionMargin, conversionMargin, calendarMargin, productsMargin, formula}
+use Rattle.units.specs.Units.{debitMargin, creditMargin, timeMargin, lowerPremium, mixedAt, mixedMargin, futureOptionMargin, conversionMargin, calendarMargin, productsMargin, formula}
 use Rattle.units.specs.LimitLaws.{LotFacts, UnitFacts, lot-fits, terms-fit, lower-most, charged-most}
 
 -- Every lot of a sound line is taken.
@@ -167,3 +169,23 @@ accountLimit = 128 * (100000 * 4860000000) + 128 * 843000000000000
 pub account-fits : accountLimit < 2 ^ 64
 unfolding accountLimit
 account-fits = lit< tt
+
+-- A mixed pair costs the same whichever side is looked at first.
+lower-either-way : (m1 v1 m2 v2 : ℕ) → lowerPremium m1 v1 m2 v2 ≡ lowerPremium m2 v2 m1 v1
+unfolding lowerPremium
+lower-either-way m1 v1 m2 v2 = go (ltb m1 m2) (ltb m2 m1) refl refl
+  where
+    go : (x y : Bool) → ltb m1 m2 ≡ x → ltb m2 m1 ≡ y → pick x v1 (pick y v2 (max v1 v2)) ≡ pick y v2 (pick x v1 (max v2 v1))
+    go true true e f = absurd (omega (arith, ltb-true m1 m2 e, ltb-true m2 m1 f))
+    go true false e f = refl
+    go false true e f = refl
+    go false false e f = max-comm v1 v2
+
+pub mixed-either-way : (m1 v1 m2 v2 c : ℕ) → mixedAt m1 v1 m2 v2 c ≡ mixedAt m2 v2 m1 v1 c
+unfolding mixedAt
+mixed-either-way m1 v1 m2 v2 c = omega (arith, lower-either-way m1 v1 m2 v2)
+
+-- Compared after rounding, equal margins take the larger premium value.
+pub equal-margins : (m v1 v2 c : ℕ) → mixedAt m v1 m v2 c ≡ m + max v1 v2 + c
+unfolding mixedAt lowerPremium
+equal-margins m v1 v2 c = simp (le-ltb m m (omega arith)) (omega arith)

@@ -12,7 +12,7 @@ returns : tie.Need-returns
 unfolding indexOption
 returns c =
     let b = c .before .before in
-    rw (sym (b .before .index-asked .ensures) ∙ b .if1 .taken) (simp (c .premium-value .ensures, c .before .index-margin .ensures))
+    rw (sym (b .before .index-asked .ensures) ∙ b .if1 .taken) (simp (c .option-lot .ensures, c .before .index-margin .ensures))
 
 returns-2 : tie.Need-returns-2
 unfolding indexOption

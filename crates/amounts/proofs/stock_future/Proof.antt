@@ -10,7 +10,9 @@ future-margin-requires c κs = future-asked-is _ _ (sym (c .before .future-asked
 
 returns : tie.Need-returns
 unfolding stockFuture
-returns c = rw (sym (c .before .before .future-asked .ensures) ∙ c .before .if1 .taken) (simp (c .future-margin .ensures))
+returns c =
+    let b = c .before .before in
+    rw (sym (b .before .future-asked .ensures) ∙ b .if1 .taken) (simp (c .future-lot .ensures, c .before .future-margin .ensures))
 
 returns-2 : tie.Need-returns-2
 unfolding stockFuture
@@ -19,4 +21,10 @@ returns-2 c = rw (sym (c .before .before .future-asked .ensures) ∙ c .before .
 pub stock-future-spec : {M : Type 1} → statement M
 stock-future-spec =
     tie.close
-    (tie.spec (λ c κs. search needs) future-margin-requires returns (λ c κs. search needs) returns-2)
+    (tie.spec
+    (λ c κs. search needs)
+    future-margin-requires
+    (λ c κs. search needs)
+    returns
+    (λ c κs. search needs)
+    returns-2)

@@ -12,7 +12,7 @@ returns : tie.Need-returns
 unfolding stockOption
 returns c =
     let b = c .before .before in
-    rw (sym (b .before .stock-asked .ensures) ∙ b .if1 .taken) (simp (c .premium-value .ensures, c .before .stock-margin .ensures))
+    rw (sym (b .before .stock-asked .ensures) ∙ b .if1 .taken) (simp (c .option-lot .ensures, c .before .stock-margin .ensures))
 
 returns-2 : tie.Need-returns-2
 unfolding stockOption
