@@ -5,17 +5,9 @@ use Prim.Native.Nat.{ℕ, _+_, _-_, _*_, max}
 use Rattle.laws.specs.Truth.{pick}
 use Rattle.rounding.specs.Rounding.{toDollar}
 use Rattle.levels.specs.declared.Levels.{Levels}
-use Rattle.levels.specs.Levels.{perLevel, ratesOf, halfOf}
+use Rattle.levels.specs.Levels.{perLevel, bothLevels, ratesOf, halfOf}
 use Rattle.amounts.specs.declared.IndexLine.{IndexLine}
 use Rattle.amounts.specs.declared.StockLine.{StockLine}
-
-abbrev pub bothLevels : (ℕ → ℕ → ℕ) → Levels → Levels → Levels
-bothLevels f l m =
-    record {
-      clearing = f (l .clearing) (m .clearing);
-      maintenance = f (l .maintenance) (m .maintenance);
-      initial = f (l .initial) (m .initial);
-    }
 
 -- A rate of a value, price x multiplier, exact; and the whole of it, 100 percent.
 unfoldable pub portion : ℕ → ℕ → ℕ → ℕ

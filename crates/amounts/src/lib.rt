@@ -2,12 +2,12 @@
 ghost use mathlib.Core.Path.{_≡_};
 ghost use mathlib.Core.Bool.{true};
 ghost use Prim.Native.Nat.{ℕ, _≤_};
-ghost use Rattle.levels.specs.Levels.{perLevel};
+ghost use Rattle.levels.specs.Levels.{perLevel, bothLevels};
 ghost use Rattle.levels.specs.RangeLaws.{AtMost};
 ghost use Rattle.laws.specs.Truth.{pick};
 ghost use Rattle.rounding.specs.Rounding.{toDollar};
 ghost use Rattle.amounts.specs.Lines.{indexFits, stockFits, optionFits, futureAsked, indexAsked, stockAsked, termsAsked};
-ghost use Rattle.amounts.specs.Singles.{bothLevels, portion, dollars, premiumValue, outOfMoney, single, indexMargin, stockMargin, futureMargin};
+ghost use Rattle.amounts.specs.Singles.{portion, dollars, premiumValue, outOfMoney, single, indexMargin, stockMargin, futureMargin};
 ghost use Rattle.amounts.specs.Lots.{futureLot, optionLot, refusedLot, refusedTerms, fixedFuture, stockFuture, indexOption, stockOption, indexTerms, stockTerms};
 use levels::Levels;
 

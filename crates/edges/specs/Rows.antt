@@ -10,7 +10,7 @@ use Rattle.laws.specs.Search.{firstWhere}
 use Rattle.laws.specs.Bytes.{sameBytes}
 use Rattle.dates.specs.Calendar.{isDay, daysIn, leapYear, shortMonth}
 use Rattle.codes.specs.Codes.{productOf, listed}
-use Rattle.rounding.specs.Rounding.{toDollar, halfUp, roundUp, unitsUp, unitsNear}
+use Rattle.rounding.specs.Rounding.{toDollar, halfUp, roundUp, stepsUp, stepsNear}
 use Rattle.levels.specs.declared.Levels.{Levels}
 use Rattle.levels.specs.Levels.{flat, fixedLevels, levelsOf, partOf, stockRates, ratesOf, raised, halfOf}
 use Rattle.amounts.specs.declared.IndexLine.{IndexLine}
@@ -88,5 +88,5 @@ rows =
 
 -- Every row gives what the paper says.
 pub rows-hold : map (λ (r : Row). gives (r .case)) rows ≡ map (λ (r : Row). r .expected) rows
-unfolding gives rows txo tenPercent fixedLevels levelsOf partOf fixedFits clearingFits partFits stockRates ratesOf raised halfOf ratesFit rateFits dispositionFits levelsFit roundUp halfUp unitsUp unitsNear toDollar productOf listed firstWhere sameBytes stockFuture indexOption stockOption indexTerms stockTerms indexFits stockFits optionFits futureAsked indexAsked stockAsked termsAsked indexMargin stockMargin futureMargin single worth portion outOfMoney dollars premiumValue unitMargin unitNumber unitChecks lotFits termsFit formula byKind debitMargin creditMargin timeMargin lowerPremium mixedAt mixedMargin futureOptionMargin conversionMargin calendarMargin productsMargin firstFailing isDay daysIn leapYear shortMonth
+unfolding gives rows txo tenPercent fixedLevels levelsOf partOf fixedFits clearingFits partFits stockRates ratesOf raised halfOf ratesFit rateFits dispositionFits levelsFit roundUp halfUp stepsUp stepsNear toDollar productOf listed firstWhere sameBytes stockFuture indexOption stockOption indexTerms stockTerms indexFits stockFits optionFits futureAsked indexAsked stockAsked termsAsked indexMargin stockMargin futureMargin single worth portion outOfMoney dollars premiumValue unitMargin unitNumber unitChecks lotFits termsFit formula byKind debitMargin creditMargin timeMargin lowerPremium mixedAt mixedMargin futureOptionMargin conversionMargin calendarMargin productsMargin firstFailing isDay daysIn leapYear shortMonth
 rows-hold = refl

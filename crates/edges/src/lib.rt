@@ -1,1 +1,2 @@
-// Theorems alone: the marked rows of document 01's table of values (specs/Rows.antt).
+// Theorems alone, over the definitions of other crates: the marked rows of the table of values (specs/Rows), the parts of the
+// listed codes (specs/Parts).

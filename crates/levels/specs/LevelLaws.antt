@@ -2,7 +2,7 @@
 use mathlib.Core.Path.{_≡_, ap, _∙_}
 use mathlib.Core.Bool.{true}
 use Prim.Native.Nat.{ℕ, _*_, _/_, _%_, _≤_, _<_}
-use native.Mathlib.Nat.{div-add-mod', mul-assoc, mul-le-mul, div-le-self}
+use native.Mathlib.Nat.{div-add-mod', mul-assoc, mul-le-mul, div-le-self, le-trans}
 use native.Mathlib.Omega.{arith}
 use lib.Dec.{lit<}
 use Rattle.laws.specs.TruthLaws.{both-true}
@@ -11,7 +11,20 @@ use Rattle.rounding.specs.RoundingLaws.{rounds-up, up-below, near-above}
 use Rattle.levels.specs.declared.Levels.{Levels}
 use Rattle.levels.specs.Ranges.{partFits, fixedFits, rateFits, ratesFit}
 use Rattle.levels.specs.RangeLaws.{AtMost, clearing-is, part-is, rate-is, fixed-is, rates-are}
-use Rattle.levels.specs.Levels.{perLevel, levelsOf, partOf, raised, ratesOf, stockRates, halfOf}
+use Rattle.levels.specs.Levels.{perLevel, bothLevels, levelsOf, partOf, raised, ratesOf, stockRates, halfOf}
+
+-- What bounds one level bounds each.
+pub each-at-most : {most more : ℕ} {l : Levels} (f : ℕ → ℕ) → ((n : ℕ) → n ≤ most → f n ≤ more) → AtMost most l → AtMost more (perLevel f l)
+each-at-most f b h =
+    record { at-clearing = b _ (h .at-clearing); at-maintenance = b _ (h .at-maintenance); at-initial = b _ (h .at-initial) }
+
+pub both-at-most : {most other more : ℕ} {l m : Levels} (f : ℕ → ℕ → ℕ) → ((x y : ℕ) → x ≤ most → y ≤ other → f x y ≤ more) → AtMost most l → AtMost other m → AtMost more (bothLevels f l m)
+both-at-most f b h k =
+    record {
+      at-clearing = b _ _ (h .at-clearing) (k .at-clearing);
+      at-maintenance = b _ _ (h .at-maintenance) (k .at-maintenance);
+      at-initial = b _ _ (h .at-initial) (k .at-initial);
+    }
 
 -- Every level of a fixed future is a multiple of 1,000, so each part of it is whole.
 whole : (x n : ℕ) → x % 1000 ≡ 0 → partFits n ≡ true → x / n * n ≡ x
@@ -55,22 +68,24 @@ halves-exact rate disposition e =
     simp (raised-even rate disposition (h .0), tens-even (raised rate disposition * 1035), tens-even (raised rate disposition * 1350))
 
 -- No amount of a fixed future is above 135,000,000 dollars.
-part-most : (x most n : ℕ) → x ≤ most → x / n ≤ most
-part-most x most n h = omega (arith, div-le-self x n)
-
 raised-most : (x ratio most : ℕ) → x * ratio ≤ most * 1000 * 1000 → roundUp (x * ratio) 1000 1000 ≤ most * 1000
 unfolding roundUp
 raised-most x ratio most h = omega (arith, up-below (x * ratio) 1000000 (lit< tt))
 
+levels-most : (clearing : ℕ) → clearing ≤ 100000000 → AtMost 135000000 (levelsOf clearing 1000)
+unfolding levelsOf
+levels-most clearing h =
+    record {
+      at-clearing = omega arith;
+      at-maintenance = raised-most clearing 1035 135000 (omega arith);
+      at-initial = raised-most clearing 1350 135000 (omega arith);
+    }
+
 pub fixed-most : (clearing part : ℕ) → fixedFits clearing part ≡ true → AtMost 135000000 (partOf (levelsOf clearing 1000) part)
-unfolding partOf levelsOf
+unfolding partOf
 fixed-most clearing part e =
     let h = clearing-is clearing (fixed-is clearing part e .0) .0 in
-    record {
-      at-clearing = part-most clearing 135000000 part (omega arith);
-      at-maintenance = part-most _ 135000000 part (raised-most clearing 1035 135000 (omega arith));
-      at-initial = part-most _ 135000000 part (raised-most clearing 1350 135000 (omega arith));
-    }
+    each-at-most (λ (x : ℕ). x / part) (λ x k. le-trans (div-le-self x part) k) (levels-most clearing h)
 
 -- No rate is above 121.5 percent.
 raised-small : (rate disposition : ℕ) → rate * disposition ≤ 900000 → raised rate disposition ≤ 90000
@@ -88,9 +103,9 @@ rates-most rate disposition e =
       at-initial = omega (arith, near-above (raised rate disposition * 1350) 10000);
     }
 
-pub halves-most : (most : ℕ) (l : Levels) → AtMost most l → AtMost most (perLevel halfOf l)
+pub halves-most : {most : ℕ} {l : Levels} → AtMost most l → AtMost most (perLevel halfOf l)
 unfolding halfOf
-halves-most most l h = record { at-clearing = omega (arith, h .at-clearing); at-maintenance = omega (arith, h .at-maintenance); at-initial = omega (arith, h .at-initial) }
+halves-most h = each-at-most halfOf (λ n k. omega (arith, k)) h
 
 -- What is in range is answered.
 pub rates-answered : (rate disposition : ℕ) → ratesFit rate disposition ≡ true → stockRates rate disposition .levels ≡ ratesOf rate disposition

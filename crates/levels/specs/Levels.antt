@@ -6,9 +6,17 @@ use Rattle.levels.specs.declared.Levels.{Levels}
 use Rattle.levels.specs.declared.Answer.{Answer}
 use Rattle.levels.specs.Ranges.{fixedFits, ratesFit}
 
--- What is said of one level, at each level.
+-- What is said of one level, at each level; of one number, and of two.
 abbrev pub perLevel : (ℕ → ℕ) → Levels → Levels
 perLevel f l = record { clearing = f (l .clearing); maintenance = f (l .maintenance); initial = f (l .initial) }
+
+abbrev pub bothLevels : (ℕ → ℕ → ℕ) → Levels → Levels → Levels
+bothLevels f l m =
+    record {
+      clearing = f (l .clearing) (m .clearing);
+      maintenance = f (l .maintenance) (m .maintenance);
+      initial = f (l .initial) (m .initial);
+    }
 
 abbrev pub flat : ℕ → Levels
 flat n = record { clearing = n; maintenance = n; initial = n }

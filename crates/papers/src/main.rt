@@ -293,65 +293,82 @@ fn stock_unit(n: [u32; 24]) -> Unit {
     }
 }
 
-fn put_amount(n: u64) {
-    put(b"\t");
-    io::print_decimal(1, n);
-}
-
-fn put_levels(l: Levels) {
-    put_amount(l.clearing);
-    put_amount(l.maintenance);
-    put_amount(l.initial);
-}
-
-fn put_answer(a: Answer) {
-    put_number(a.number);
+// The figures of an answer, then zeros.
+fn answer_figures(a: Answer) -> [u64; 19] {
     let l = a.levels;
-    put_levels(l);
+    let mut f = [0u64; 19];
+    f[0] = a.number as u64;
+    f[1] = l.clearing;
+    f[2] = l.maintenance;
+    f[3] = l.initial;
+    f
 }
 
-fn put_lot(l: Lot) {
-    put_number(l.number);
-    let m = l.margin;
-    put_levels(m);
-    put_amount(l.premium);
-}
-
-fn put_terms(t: Terms) {
-    put_number(t.number);
-    put_amount(t.tenth);
-    let c = t.c;
-    put_levels(c);
-}
-
-fn put_unit(kind: u32, r1: u32, r2: u32, charged: bool, unit: Unit) {
+// The figures of a unit: its lots, its terms, its margin.
+fn unit_figures(kind: u32, r1: u32, r2: u32, charged: bool, unit: Unit) -> [u64; 19] {
     let first = unit.first;
     let second = unit.second;
     let terms = unit.terms;
-    put_lot(first);
-    put_lot(second);
-    put_terms(terms);
-    put_answer(units::unit_margin(kind, first, second, terms, r1, r2, charged));
+    let m = first.margin;
+    let n = second.margin;
+    let c = terms.c;
+    let a = units::unit_margin(kind, first, second, terms, r1, r2, charged);
+    let l = a.levels;
+    [
+        first.number as u64,
+        m.clearing,
+        m.maintenance,
+        m.initial,
+        first.premium,
+        second.number as u64,
+        n.clearing,
+        n.maintenance,
+        n.initial,
+        second.premium,
+        terms.number as u64,
+        terms.tenth,
+        c.clearing,
+        c.maintenance,
+        c.initial,
+        a.number as u64,
+        l.clearing,
+        l.maintenance,
+        l.initial,
+    ]
 }
 
-fn answer_fixed(line: &[u8]) {
-    let n = numbers(line);
-    put_answer(levels::fixed_levels(n[0], n[1]));
+fn figures(letter: u8, n: [u32; 24]) -> [u64; 19] {
+    match letter {
+        b'F' => answer_figures(levels::fixed_levels(n[0], n[1])),
+        b'R' => answer_figures(levels::stock_rates(n[0], n[1])),
+        b'I' => unit_figures(n[0], n[1], n[2], n[3] == 1, index_unit(n)),
+        _ => unit_figures(n[0], n[1], n[2], n[3] == 1, stock_unit(n)),
+    }
 }
 
-fn answer_rates(line: &[u8]) {
-    let n = numbers(line);
-    put_answer(levels::stock_rates(n[0], n[1]));
+// An answer has four figures, a unit nineteen.
+fn figure_count(letter: u8) -> usize
+    ensures { λ r. ⌜ r ≤ 19 ⌝ }
+{
+    match letter {
+        b'F' | b'R' => 4,
+        _ => 19,
+    }
 }
 
-fn answer_index(line: &[u8]) {
-    let n = numbers(line);
-    put_unit(n[0], n[1], n[2], n[3] == 1, index_unit(n));
+fn put_figures(f: [u64; 19], count: usize)
+    requires { ⌜ count ≤ 19 ⌝ }
+{
+    let mut i: usize = 0;
+    while i < count {
+        put(b"\t");
+        io::print_decimal(1, f[i]);
+        i += 1;
+    }
 }
 
-fn answer_stock(line: &[u8]) {
-    let n = numbers(line);
-    put_unit(n[0], n[1], n[2], n[3] == 1, stock_unit(n));
+fn answer_amounts(letter: u8, line: &[u8]) {
+    put_figures(figures(letter, numbers(line)), figure_count(letter));
 }
 
 fn answer(line: &[u8]) {
@@ -364,10 +381,7 @@ fn answer(line: &[u8]) {
             b'S' => answer_series(line),
             b'O' => answer_order(line),
             b'M' => answer_pair(line),
-            b'F' => answer_fixed(line),
-            b'R' => answer_rates(line),
-            b'I' => answer_index(line),
-            b'J' => answer_stock(line),
+            b'F' | b'R' | b'I' | b'J' => answer_amounts(letter, line),
             _ => {}
         }
     }

@@ -16,19 +16,19 @@ pub record NearestMultiple (num den step r : ℕ) : Type 0 where
   pub not-above : 2 * (r * den) ≤ 2 * num + den * step
   pub not-below : 2 * num < 2 * (r * den) + den * step
 
--- The least number of units that is not below n, and the number of units nearest to n, half up.
-unfoldable pub unitsUp : ℕ → ℕ → ℕ
-unitsUp n unit = (n + (unit - 1)) / unit
+-- The least number of steps of a size that is not below n, and the number of steps nearest to n, half up.
+unfoldable pub stepsUp : ℕ → ℕ → ℕ
+stepsUp n size = (n + (size - 1)) / size
 
-unfoldable pub unitsNear : ℕ → ℕ → ℕ
-unitsNear n unit = (2 * n + unit) / (2 * unit)
+unfoldable pub stepsNear : ℕ → ℕ → ℕ
+stepsNear n size = (2 * n + size) / (2 * size)
 
 -- The only numbers with these meanings (RoundingLaws).
 unfoldable pub roundUp : ℕ → ℕ → ℕ → ℕ
-roundUp num den step = unitsUp num (den * step) * step
+roundUp num den step = stepsUp num (den * step) * step
 
 unfoldable pub halfUp : ℕ → ℕ → ℕ → ℕ
-halfUp num den step = unitsNear num (den * step) * step
+halfUp num den step = stepsNear num (den * step) * step
 
 -- Half up to the dollar, of hundred-millionths of a dollar: a thousandth of a point by a thousandth of a percent.
 unfoldable pub toDollar : ℕ → ℕ

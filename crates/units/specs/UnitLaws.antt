@@ -2,29 +2,31 @@
 use mathlib.Core.Path.{_≡_, refl}
 use mathlib.Core.Bool.{Bool, true, false}
 use Prim.Native.Nat.{ℕ, _+_, _*_, _^_, _-_, _≤_, _<_, max, min}
-use native.Mathlib.Nat.{mul-le-mul, max-le, max-comm, add-mul, mul-right-comm}
+use native.Mathlib.Nat.{mul-le-mul, add-le-add, max-le, max-comm, add-mul, mul-right-comm}
 use native.Mathlib.Omega.{arith}
-use lib.Dec.{ltb, lit≤, lit<}
+use lib.Dec.{eqb, ltb, lit≤, lit<}
 use borrow.Author.Tests.{ltb-true, le-ltb}
 use Rattle.laws.specs.Truth.{pick}
+use Rattle.laws.specs.Checks.{allPass, numbered}
+use Rattle.laws.specs.CheckLaws.{by-number, none-fails}
 use Rattle.laws.specs.KindLaws.{each-kind}
 use Rattle.rounding.specs.RoundingLaws.{dollar-most}
 use Rattle.levels.specs.declared.Levels.{Levels}
-use Rattle.levels.specs.Levels.{perLevel, flat, fixedLevels}
+use Rattle.levels.specs.Levels.{perLevel, bothLevels, flat, fixedLevels}
 use Rattle.levels.specs.Ranges.{fixedFits}
 use Rattle.levels.specs.RangeLaws.{AtMost, at-most-more, clearing-is}
-use Rattle.levels.specs.LevelLaws.{fixed-most}
+use Rattle.levels.specs.LevelLaws.{each-at-most, both-at-most, fixed-most}
 use Rattle.amounts.specs.declared.IndexLine.{IndexLine}
 use Rattle.amounts.specs.declared.StockLine.{StockLine}
 use Rattle.amounts.specs.declared.Lot.{Lot}
 use Rattle.amounts.specs.declared.Terms.{Terms}
-use Rattle.amounts.specs.Singles.{bothLevels, worth}
+use Rattle.amounts.specs.Singles.{worth}
 use Rattle.amounts.specs.Lines.{stockFits, futureAsked, indexAsked, stockAsked, termsAsked}
 use Rattle.amounts.specs.LineLaws.{index-is, stock-is, option-is, future-asked-is, index-asked-is, stock-asked-is, terms-asked-is}
 use Rattle.amounts.specs.Lots.{fixedFuture, stockFuture, indexOption, stockOption, indexTerms, stockTerms}
 use Rattle.amounts.specs.AmountLaws.{worth-most, premium-most, future-most, index-most, stock-most, c-value-most, tenth-most}
 use Rattle.units.specs.Limits.{lotLimit, premiumLimit, cLimit, lotFits, termsFit}
-use Rattle.units.specs.Units.{debitMargin, creditMargin, timeMargin, lowerPremium, mixedAt, mixedMargin, futureOptionMargin, conversionMargin, calendarMargin, productsMargin, formula}
+use Rattle.units.specs.Units.{debitMargin, creditMargin, timeMargin, lowerPremium, mixedAt, mixedMargin, futureOptionMargin, conversionMargin, calendarMargin, productsMargin, formula, unitChecks, unitNumber, unitMargin}
 use Rattle.units.specs.LimitLaws.{LotFacts, UnitFacts, lot-fits, terms-fit, lower-most, charged-most}
 
 -- Every lot of a sound line is taken.
@@ -70,33 +72,32 @@ stock-terms-taken s e =
     let f = stock-is s e in
     rw e (terms-fit _ refl (record { multiplier-most = f .shares-most; tenth-most = tenth-most s f; c-most = c-value-most s f }))
 
+-- A unit is accepted exactly when none of its checks fails, and then its margin is its kind's formula.
+module _ (kind : ℕ) (first second : Lot) (terms : Terms) (r1 r2 : ℕ) where
+  pub unit-by-number : eqb (unitNumber kind first second terms r1 r2) 0 ≡ allPass (unitChecks kind first second terms r1 r2)
+  unfolding unitNumber unitChecks numbered
+  unit-by-number = by-number (unitChecks kind first second terms r1 r2) refl
+
+  pub unit-answered : (charged : Bool) → allPass (unitChecks kind first second terms r1 r2) ≡ true → unitMargin kind first second terms r1 r2 charged ≡ record { number = 0; levels = formula kind first second terms r1 r2 charged }
+  unfolding unitMargin unitNumber
+  unit-answered charged e = simp (none-fails (unitChecks kind first second terms r1 r2) e)
+
 flat-most : (n : ℕ) {most : ℕ} → n ≤ most → AtMost most (flat n)
 flat-most n h = record { at-clearing = h; at-maintenance = h; at-initial = h }
 
-mixed-at-most : (m1 v1 m2 v2 c : ℕ) → m1 ≤ lotLimit → v1 ≤ premiumLimit → m2 ≤ lotLimit → v2 ≤ premiumLimit → c ≤ cLimit → mixedAt m1 v1 m2 v2 c ≤ 8430000000
+mixed-at-most : (m1 v1 m2 v2 : ℕ) → v1 ≤ premiumLimit → v2 ≤ premiumLimit → m1 ≤ lotLimit → m2 ≤ lotLimit → mixedAt m1 v1 m2 v2 ≤ 6430000000
 unfolding mixedAt
-mixed-at-most m1 v1 m2 v2 c a b d e f = omega (arith, lower-most m1 v1 m2 v2 b e)
+mixed-at-most m1 v1 m2 v2 a b d e = omega (arith, lower-most m1 v1 m2 v2 a b)
 
 mixed-most : (call put : Lot) (c : Levels) → LotFacts call → LotFacts put → AtMost cLimit c → AtMost 8430000000 (mixedMargin call put c)
 unfolding mixedMargin
 mixed-most call put c f g h =
-    let m = f .margin-most in
-    let n = g .margin-most in
-    let v = f .premium-most in
-    let w = g .premium-most in
-    record {
-      at-clearing = mixed-at-most _ _ _ _ _ (m .at-clearing) v (n .at-clearing) w (h .at-clearing);
-      at-maintenance = mixed-at-most _ _ _ _ _ (m .at-maintenance) v (n .at-maintenance) w (h .at-maintenance);
-      at-initial = mixed-at-most _ _ _ _ _ (m .at-initial) v (n .at-initial) w (h .at-initial);
-    }
+    both-at-most (λ (m : ℕ) (n : ℕ). m + n) (λ m n a b. add-le-add a b)
+    (both-at-most (λ (m : ℕ) (n : ℕ). mixedAt m (call .premium) n (put .premium)) (λ m n a b. mixed-at-most m _ n _ (f .premium-most) (g .premium-most) a b) (f .margin-most) (g .margin-most))
+    h
 
-larger-most : (l m : Levels) {most : ℕ} → AtMost most l → AtMost most m → AtMost most (bothLevels max l m)
-larger-most l m h k =
-    record {
-      at-clearing = max-le (h .at-clearing) (k .at-clearing);
-      at-maintenance = max-le (h .at-maintenance) (k .at-maintenance);
-      at-initial = max-le (h .at-initial) (k .at-initial);
-    }
+larger-most : {most : ℕ} {l m : Levels} → AtMost most l → AtMost most m → AtMost most (bothLevels max l m)
+larger-most h k = both-at-most max (λ x y a b. max-le a b) h k
 
 module _ (first second : Lot) (terms : Terms) (r1 r2 : ℕ) (charged : Bool) (u : UnitFacts first second terms r1 r2) where
   credit-most : AtMost 2000000000 (creditMargin (first .strike) (second .strike) (terms .multiplier))
@@ -116,12 +117,12 @@ module _ (first second : Lot) (terms : Terms) (r1 r2 : ℕ) (charged : Bool) (u 
       flat-most _ (max-le (omega arith) (dollar-most _ 4000000000 (omega arith)))
 
   -- In every kind but 5 a unit comes to at most 8,430,000,000 dollars.
-  each-most : (P : Levels → Type 0) (kind : ℕ) → ((l : Levels) → AtMost 8430000000 l → P l) → P (futureOptionMargin r1 (first .margin) r2 (second .premium)) → P (formula kind first second terms r1 r2 charged)
+  pub each-most : (P : Levels → Type 0) (kind : ℕ) → ((l : Levels) → AtMost 8430000000 l → P l) → P (futureOptionMargin r1 (first .margin) r2 (second .premium)) → P (formula kind first second terms r1 r2 charged)
   unfolding formula debitMargin conversionMargin calendarMargin productsMargin
   each-most P kind small five =
       let m = u .first-is .margin-most in
       let n = u .second-is .margin-most in
-      let larger = small _ (at-most-more (lit≤ tt) (larger-most (first .margin) (second .margin) m n)) in
+      let larger = small _ (at-most-more (lit≤ tt) (larger-most m n)) in
       each-kind _ _ _ _ _ _ _ _ _ P kind
       (λ _. small _ (flat-most 0 (lit≤ tt)))
       (λ _. small _ (at-most-more (lit≤ tt) credit-most))
@@ -140,15 +141,12 @@ module _ (first second : Lot) (terms : Terms) (r1 r2 : ℕ) (charged : Bool) (u 
   pub unit-most : (kind : ℕ) → AtMost 643000000000 (formula kind first second terms r1 r2 charged)
   unfolding futureOptionMargin
   unit-most kind =
-      let m = u .first-is .margin-most in
-      each-most (AtMost 643000000000) kind (λ l h. at-most-more (lit≤ tt) h)
-      (record { at-clearing = five-at _ (m .at-clearing); at-maintenance = five-at _ (m .at-maintenance); at-initial = five-at _ (m .at-initial) })
+      each-most (AtMost 643000000000) kind (λ l h. at-most-more (lit≤ tt) h) (each-at-most _ five-at (u .first-is .margin-most))
 
   -- All units of a pair, of which no leg has more than 100,000 lots, come to at most 843,000,000,000,000.
   module _ (units : ℕ) (some : units ≤ 100000) (one : r1 * units ≤ 100000) (two : r2 * units ≤ 100000) where
     times-units : (l : Levels) → AtMost 8430000000 l → AtMost 843000000000000 (perLevel (λ (m : ℕ). m * units) l)
-    times-units l h =
-        record { at-clearing = mul-le-mul (h .at-clearing) some; at-maintenance = mul-le-mul (h .at-maintenance) some; at-initial = mul-le-mul (h .at-initial) some }
+    times-units l h = each-at-most (λ (m : ℕ). m * units) (λ m k. mul-le-mul k some) h
 
     five-units : (m : ℕ) → m ≤ lotLimit → (r1 * m + r2 * second .premium) * units ≤ 843000000000000
     five-units m h =
@@ -158,13 +156,22 @@ module _ (first second : Lot) (terms : Terms) (r1 r2 : ℕ) (charged : Bool) (u 
     pub pair-most : (kind : ℕ) → AtMost 843000000000000 (perLevel (λ (m : ℕ). m * units) (formula kind first second terms r1 r2 charged))
     unfolding futureOptionMargin
     pair-most kind =
-        let m = u .first-is .margin-most in
         each-most (λ (l : Levels). AtMost 843000000000000 (perLevel (λ (m : ℕ). m * units) l)) kind times-units
-        (record { at-clearing = five-units _ (m .at-clearing); at-maintenance = five-units _ (m .at-maintenance); at-initial = five-units _ (m .at-initial) })
+        (each-at-most (λ (m : ℕ). (r1 * m + r2 * second .premium) * units) five-units (u .first-is .margin-most))
 
--- An account: 128 holdings, each of 100,000 lots on the short side of an option or on both sides of a future, and 128 pairs.
+-- A holding of at most 100,000 lots a side comes to at most 486,000,000,000,000: every free future is charged, of options the
+-- short ones.
+pub futures-most : (long short : ℕ) {l : Levels} → AtMost 2430000000 l → long ≤ 100000 → short ≤ 100000 → AtMost 486000000000000 (perLevel (λ (m : ℕ). m * (long + short)) l)
+futures-most long short h a b =
+    each-at-most (λ (m : ℕ). m * (long + short)) (λ m k. mul-le-mul k (add-le-add a b)) h
+
+pub options-most : (short : ℕ) {l : Levels} → AtMost lotLimit l → short ≤ 100000 → AtMost 486000000000000 (perLevel (λ (m : ℕ). m * short) l)
+options-most short h b =
+    at-most-more (lit≤ tt) (each-at-most (λ (m : ℕ). m * short) (λ m k. mul-le-mul k b) h)
+
+-- An account of 128 holdings and 128 pairs.
 pub accountLimit : ℕ
-accountLimit = 128 * (100000 * 4860000000) + 128 * 843000000000000
+accountLimit = 128 * 486000000000000 + 128 * 843000000000000
 
 pub account-fits : accountLimit < 2 ^ 64
 unfolding accountLimit
@@ -181,11 +188,11 @@ lower-either-way m1 v1 m2 v2 = go (ltb m1 m2) (ltb m2 m1) refl refl
     go false true e f = refl
     go false false e f = max-comm v1 v2
 
-pub mixed-either-way : (m1 v1 m2 v2 c : ℕ) → mixedAt m1 v1 m2 v2 c ≡ mixedAt m2 v2 m1 v1 c
+pub mixed-either-way : (m1 v1 m2 v2 : ℕ) → mixedAt m1 v1 m2 v2 ≡ mixedAt m2 v2 m1 v1
 unfolding mixedAt
-mixed-either-way m1 v1 m2 v2 c = omega (arith, lower-either-way m1 v1 m2 v2)
+mixed-either-way m1 v1 m2 v2 = omega (arith, lower-either-way m1 v1 m2 v2)
 
 -- Compared after rounding, equal margins take the larger premium value.
-pub equal-margins : (m v1 v2 c : ℕ) → mixedAt m v1 m v2 c ≡ m + max v1 v2 + c
+pub equal-margins : (m v1 v2 : ℕ) → mixedAt m v1 m v2 ≡ m + max v1 v2
 unfolding mixedAt lowerPremium
-equal-margins m v1 v2 c = simp (le-ltb m m (omega arith)) (omega arith)
+equal-margins m v1 v2 = simp (le-ltb m m (omega arith)) (omega arith)

@@ -9,10 +9,10 @@ use Rattle.laws.specs.Kinds.{byKind}
 use Rattle.rounding.specs.Rounding.{toDollar}
 use Rattle.levels.specs.declared.Levels.{Levels}
 use Rattle.levels.specs.declared.Answer.{Answer}
-use Rattle.levels.specs.Levels.{perLevel, flat}
+use Rattle.levels.specs.Levels.{perLevel, bothLevels, flat}
 use Rattle.amounts.specs.declared.Lot.{Lot}
 use Rattle.amounts.specs.declared.Terms.{Terms}
-use Rattle.amounts.specs.Singles.{bothLevels, worth}
+use Rattle.amounts.specs.Singles.{worth}
 use Rattle.units.specs.Limits.{lotFits, termsFit}
 
 -- "1, nothing."
@@ -33,16 +33,14 @@ timeMargin tenth p1 p2 multiplier = flat (max tenth (toDollar (2 * worth (max p1
 unfoldable pub lowerPremium : ℕ → ℕ → ℕ → ℕ → ℕ
 lowerPremium m1 v1 m2 v2 = pick (ltb m1 m2) v1 (pick (ltb m2 m1) v2 (max v1 v2))
 
-unfoldable pub mixedAt : ℕ → ℕ → ℕ → ℕ → ℕ → ℕ
-mixedAt m1 v1 m2 v2 c = max m1 m2 + lowerPremium m1 v1 m2 v2 + c
+unfoldable pub mixedAt : ℕ → ℕ → ℕ → ℕ → ℕ
+mixedAt m1 v1 m2 v2 = max m1 m2 + lowerPremium m1 v1 m2 v2
 
 unfoldable pub mixedMargin : Lot → Lot → Levels → Levels
 mixedMargin call put c =
-    record {
-      clearing = mixedAt (call .margin .clearing) (call .premium) (put .margin .clearing) (put .premium) (c .clearing);
-      maintenance = mixedAt (call .margin .maintenance) (call .premium) (put .margin .maintenance) (put .premium) (c .maintenance);
-      initial = mixedAt (call .margin .initial) (call .premium) (put .margin .initial) (put .premium) (c .initial);
-    }
+    bothLevels (λ (m : ℕ) (n : ℕ). m + n)
+    (bothLevels (λ (m : ℕ) (n : ℕ). mixedAt m (call .premium) n (put .premium)) (call .margin) (put .margin))
+    c
 
 -- C, where the client is charged it.
 abbrev pub cCharged : Bool → Levels → Levels

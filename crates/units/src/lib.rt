@@ -3,9 +3,8 @@ ghost use mathlib.Core.Path.{_≡_};
 ghost use mathlib.Core.Bool.{true};
 ghost use Prim.Native.Nat.{ℕ, _+_, _*_, _≤_, max};
 ghost use Rattle.laws.specs.Truth.{pick};
-ghost use Rattle.levels.specs.Levels.{perLevel, flat};
+ghost use Rattle.levels.specs.Levels.{perLevel, bothLevels, flat};
 ghost use Rattle.levels.specs.RangeLaws.{AtMost};
-ghost use Rattle.amounts.specs.Singles.{bothLevels};
 ghost use Rattle.units.specs.Limits.{lotFits, termsFit};
 ghost use Rattle.units.specs.Units.{creditMargin, timeMargin, lowerPremium, mixedAt, mixedMargin, cCharged, futureOptionMargin, formula, unitNumber, unitMargin};
 ghost use Rattle.units.specs.LimitLaws.{LotFacts, TermsFacts, UnitFacts};
@@ -77,10 +76,10 @@ fn lower_premium(m1: u64, v1: u64, m2: u64, v2: u64) -> u64
     rounding::larger(v1, v2)
 }
 
-// Kind 4 at one level.
+// Kind 4 at one level, with C.
 fn mixed_at(m1: u64, v1: u64, m2: u64, v2: u64, c: u64) -> u64
     requires { ⌜ (m1 ≤ 4430000000) × ((v1 ≤ 2000000000) × ((m2 ≤ 4430000000) × ((v2 ≤ 2000000000) × (c ≤ 2000000000)))) ⌝ }
-    ensures { λ r. ⌜ r ≡ mixedAt m1 v1 m2 v2 c ⌝ }
+    ensures { λ r. ⌜ r ≡ mixedAt m1 v1 m2 v2 + c ⌝ }
 {
     rounding::larger(m1, m2) + lower_premium(m1, v1, m2, v2) + c
 }

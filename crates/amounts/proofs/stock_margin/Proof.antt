@@ -31,7 +31,7 @@ portions-of-requires-2 c κs =
     let f = stock-is _ (r .before .before .pre .0) in
     let g = option-is _ _ (r .before .before .pre .1) in (
       rw (c .before .before .before .base-price .ensures) (picked (λ (n : ℕ). n ≤ 100000000) (r .before .before .args .call) _ _ (λ _. f .price-most) (λ _. g .strike-most)),
-      (f .shares-most, rw (c .halves .ensures, r .stock-rates .ensures, rates-answered _ _ (f .option-fits)) (halves-most _ _ (rates-most _ _ (f .option-fits)))),
+      (f .shares-most, rw (c .halves .ensures, r .stock-rates .ensures, rates-answered _ _ (f .option-fits)) (halves-most (rates-most _ _ (f .option-fits)))),
     )
 
 singles-requires : tie.Need-singles-requires

@@ -1,5 +1,4 @@
 use Prim.Native.Nat.{_-_, _≤_}
-use native.Mathlib.Omega.{arith}
 use borrow.Author.Needs.{needs}
 use Rattle.papers.proofs.numbers.Statement.{statement}
 use Rattle.papers.proofs.numbers.Tie as tie

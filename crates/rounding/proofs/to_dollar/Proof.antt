@@ -7,7 +7,7 @@ use Rattle.rounding.proofs.to_dollar.Tie as tie
 
 returns : tie.Need-returns
 unfolding toDollar halfUp
-returns c = c .units-near .ensures ∙ sym (mul-one _)
+returns c = c .steps-near .ensures ∙ sym (mul-one _)
 
 pub to-dollar-spec : {M : Type 1} → statement M
 to-dollar-spec = tie.close (tie.spec (λ c κs. search needs) returns)
