@@ -1,7 +1,7 @@
 // The margin of one lot, from the lines of a sheet, and what the pairs of an option use of them.
 ghost use mathlib.Core.Path.{_≡_};
 ghost use mathlib.Core.Bool.{true};
-ghost use Prim.Native.Nat.{ℕ, _≤_};
+ghost use Prim.Native.Nat.{_≤_};
 ghost use Rattle.levels.specs.Levels.{perLevel, bothLevels};
 ghost use Rattle.levels.specs.RangeLaws.{AtMost};
 ghost use Rattle.laws.specs.Truth.{pick};

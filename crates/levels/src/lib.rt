@@ -1,7 +1,6 @@
 // The three levels of a margin: a fixed future's amounts, and a stock's rates.
 ghost use mathlib.Core.Path.{_≡_};
-ghost use mathlib.Core.Bool.{true};
-ghost use Prim.Native.Nat.{ℕ, _≤_, _<_};
+ghost use Prim.Native.Nat.{_≤_, _<_};
 ghost use Rattle.levels.specs.Levels.{perLevel, flat, levelsOf, partOf, raised, ratesOf, halfOf, fixedLevels, stockRates, outside};
 ghost use Rattle.levels.specs.Ranges.{levelsFit, clearingFits, partFits, fixedFits, rateFits, dispositionFits, ratesFit};
 

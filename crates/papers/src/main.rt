@@ -8,7 +8,7 @@
 //   M kind SERIES SERIES r1 r2   the number; the parts of the rule by letter (kind, codes, natures, dates, strikes, ratio),
 //                                - for one that fails; the sides of the first and the second leg, L or S
 //   F clearing part              a fixed future: the number; clearing, maintenance, initial
-//   R rate disposition           a stock's rates: the number; clearing, maintenance, initial
+//   R rate disposition           a stock's rates: the number; clearing, maintenance, initial; half of each, which is b of a
 //   I kind r1 r2 charged clearing OLINE LOT LOT
 //                                a unit of a pair of an index; the clearing margin is that of its full-size future
 //   J kind r1 r2 charged SLINE LOT LOT
@@ -293,15 +293,31 @@ fn stock_unit(n: [u32; 24]) -> Unit {
     }
 }
 
-// The figures of an answer, then zeros.
+// The figures of an answer, the halves of its levels, then zeros.
 fn answer_figures(a: Answer) -> [u64; 19] {
     let l = a.levels;
-    let mut f = [0u64; 19];
-    f[0] = a.number as u64;
-    f[1] = l.clearing;
-    f[2] = l.maintenance;
-    f[3] = l.initial;
-    f
+    let b = levels::halves(l);
+    [
+        a.number as u64,
+        l.clearing,
+        l.maintenance,
+        l.initial,
+        b.clearing,
+        b.maintenance,
+        b.initial,
+        0,
+        0,
+        0,
+        0,
+        0,
+        0,
+        0,
+        0,
+        0,
+        0,
+        0,
+        0,
+    ]
 }
 
 // The figures of a unit: its lots, its terms, its margin.
@@ -346,12 +362,13 @@ fn figures(letter: u8, n: [u32; 24]) -> [u64; 19] {
     }
 }
 
-// An answer has four figures, a unit nineteen.
+// A fixed future has four figures, a stock's rates seven, a unit nineteen.
 fn figure_count(letter: u8) -> usize
     ensures { λ r. ⌜ r ≤ 19 ⌝ }
 {
     match letter {
-        b'F' | b'R' => 4,
+        b'F' => 4,
+        b'R' => 7,
         _ => 19,
     }
 }

@@ -1,6 +1,6 @@
 // Rounding to a step, up and half up; the larger of two numbers, what is left of one, how far they are apart.
 ghost use mathlib.Core.Path.{_≡_};
-ghost use Prim.Native.Nat.{ℕ, _-_, _*_, _<_, max, min};
+ghost use Prim.Native.Nat.{_-_, _*_, _<_, max, min};
 ghost use Rattle.rounding.specs.Rounding.{stepsUp, stepsNear, roundUp, halfUp, toDollar};
 
 // The least number of steps of a size that is not below n.

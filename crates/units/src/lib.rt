@@ -1,13 +1,11 @@
 // What one unit of a pair costs: a formula for each of the eight kinds.
 ghost use mathlib.Core.Path.{_≡_};
-ghost use mathlib.Core.Bool.{true};
-ghost use Prim.Native.Nat.{ℕ, _+_, _*_, _≤_, max};
-ghost use Rattle.laws.specs.Truth.{pick};
-ghost use Rattle.levels.specs.Levels.{perLevel, bothLevels, flat};
+ghost use Prim.Native.Nat.{_+_, _*_, _≤_, max};
+ghost use Rattle.levels.specs.Levels.{bothLevels};
 ghost use Rattle.levels.specs.RangeLaws.{AtMost};
 ghost use Rattle.units.specs.Limits.{lotFits, termsFit};
 ghost use Rattle.units.specs.Units.{creditMargin, timeMargin, lowerPremium, mixedAt, mixedMargin, cCharged, futureOptionMargin, formula, unitNumber, unitMargin};
-ghost use Rattle.units.specs.LimitLaws.{LotFacts, TermsFacts, UnitFacts};
+ghost use Rattle.units.specs.LimitLaws.{LotFacts, UnitFacts};
 use amounts::Lot;
 use amounts::Terms;
 use levels::Answer;
@@ -39,12 +37,12 @@ pub fn terms_fit(t: Terms) -> bool
 fn unit_number(kind: u32, first: Lot, second: Lot, terms: Terms, r1: u32, r2: u32) -> u8
     ensures { λ r. ⌜ r ≡ unitNumber kind first second terms r1 r2 ⌝ }
 {
-    let rest = laws::unless(10, laws::in_range(1, 8, kind), 0);
-    let ratio = laws::unless(6, laws::in_range(1, 100, r2), rest);
-    let both = laws::unless(6, laws::in_range(1, 100, r1), ratio);
-    let known = laws::unless(2, terms_fit(terms), both);
-    let later = laws::unless(2, lot_fits(second), known);
-    laws::unless(2, lot_fits(first), later)
+    let by_kind = laws::unless(10, laws::in_range(1, 8, kind), 0);
+    let by_r2 = laws::unless(6, laws::in_range(1, 100, r2), by_kind);
+    let by_r1 = laws::unless(6, laws::in_range(1, 100, r1), by_r2);
+    let by_terms = laws::unless(2, terms_fit(terms), by_r1);
+    let by_second = laws::unless(2, lot_fits(second), by_terms);
+    laws::unless(2, lot_fits(first), by_second)
 }
 
 // Kind 2: strike difference x multiplier.
