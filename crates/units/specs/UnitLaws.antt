@@ -22,24 +22,32 @@ use Rattle.amounts.specs.declared.Lot.{Lot}
 use Rattle.amounts.specs.declared.Terms.{Terms}
 use Rattle.amounts.specs.Singles.{worth}
 use Rattle.amounts.specs.Lines.{stockFits, futureAsked, indexAsked, stockAsked, termsAsked}
-use Rattle.amounts.specs.LineLaws.{index-is, stock-is, option-is, future-asked-is, index-asked-is, stock-asked-is, terms-asked-is}
-use Rattle.amounts.specs.Lots.{fixedFuture, stockFuture, indexOption, stockOption, indexTerms, stockTerms}
+use Rattle.amounts.specs.LineLaws.{OptionFacts, index-is, stock-is, option-is, future-asked-is, index-asked-is, stock-asked-is, terms-asked-is}
+use Rattle.amounts.specs.Lots.{futureLot, optionLot, fixedFuture, stockFuture, indexOption, stockOption, indexTerms, stockTerms}
 use Rattle.amounts.specs.AmountLaws.{worth-most, premium-most, future-most, index-most, stock-most, c-value-most, tenth-most}
 use Rattle.units.specs.Limits.{lotLimit, premiumLimit, cLimit, lotFits, termsFit}
 use Rattle.units.specs.Units.{debitMargin, creditMargin, timeMargin, lowerPremium, mixedAt, mixedMargin, futureOptionMargin, conversionMargin, calendarMargin, productsMargin, formula, unitChecks, unitNumber, unitMargin}
 use Rattle.units.specs.LimitLaws.{LotFacts, UnitFacts, lot-fits, terms-fit, lower-most, charged-most}
 
--- Every lot of a sound line is taken.
+-- A lot is taken where its margin keeps to the limit.
+future-lot : (margin : Levels) → AtMost lotLimit margin → lotFits (futureLot 0 margin) ≡ true
+future-lot margin m =
+    lot-fits _ refl (record { margin-most = m; premium-most = lit≤ tt; price-most = lit≤ tt; strike-most = lit≤ tt })
+
+option-lot : (margin : Levels) (multiplier strike price : ℕ) → AtMost lotLimit margin → multiplier ≤ 20000 → OptionFacts strike price → lotFits (optionLot margin multiplier strike price) ≡ true
+option-lot margin multiplier strike price m k g =
+    lot-fits _ refl (record { margin-most = m; premium-most = premium-most price multiplier (g .value-most) k; price-most = g .value-most; strike-most = g .strike-most })
+
+-- So every lot of a sound line is taken.
 pub fixed-lot : (clearing part : ℕ) → fixedFits clearing part ≡ true → lotFits (fixedFuture clearing part) ≡ true
 unfolding fixedFuture fixedLevels
-fixed-lot clearing part e =
-    rw e (lot-fits _ refl (record { margin-most = at-most-more (lit≤ tt) (fixed-most clearing part e); premium-most = lit≤ tt; price-most = lit≤ tt; strike-most = lit≤ tt }))
+fixed-lot clearing part e = rw e (future-lot _ (at-most-more (lit≤ tt) (fixed-most clearing part e)))
 
 pub stock-future-lot : (s : StockLine) (price : ℕ) → futureAsked s price ≡ true → lotFits (stockFuture s price) ≡ true
 unfolding stockFuture
 stock-future-lot s price e =
     let h = future-asked-is s price e in
-    rw e (lot-fits _ refl (record { margin-most = at-most-more (lit≤ tt) (future-most s price (stock-is s (h .0)) (h .1)); premium-most = lit≤ tt; price-most = lit≤ tt; strike-most = lit≤ tt }))
+    rw e (future-lot _ (at-most-more (lit≤ tt) (future-most s price (stock-is s (h .0)) (h .1))))
 
 pub index-lot : (o : IndexLine) (call : Bool) (strike price : ℕ) → indexAsked o strike price ≡ true → lotFits (indexOption o call strike price) ≡ true
 unfolding indexOption
@@ -47,7 +55,7 @@ index-lot o call strike price e =
     let h = index-asked-is o strike price e in
     let f = index-is o (h .0) in
     let g = option-is strike price (h .1) in
-    rw e (lot-fits _ refl (record { margin-most = at-most-more (lit≤ tt) (index-most o call strike price f g); premium-most = premium-most price (o .multiplier) (g .value-most) (f .multiplier-most); price-most = g .value-most; strike-most = g .strike-most }))
+    rw e (option-lot _ _ strike price (at-most-more (lit≤ tt) (index-most o call strike price f g)) (f .multiplier-most) g)
 
 pub stock-lot : (s : StockLine) (call : Bool) (strike price : ℕ) → stockAsked s strike price ≡ true → lotFits (stockOption s call strike price) ≡ true
 unfolding stockOption
@@ -55,7 +63,7 @@ stock-lot s call strike price e =
     let h = stock-asked-is s strike price e in
     let f = stock-is s (h .0) in
     let g = option-is strike price (h .1) in
-    rw e (lot-fits _ refl (record { margin-most = stock-most s call strike price f g; premium-most = premium-most price (s .shares) (g .value-most) (f .shares-most); price-most = g .value-most; strike-most = g .strike-most }))
+    rw e (option-lot _ _ strike price (stock-most s call strike price f g) (f .shares-most) g)
 
 -- And so are the terms.
 pub index-terms-taken : (o : IndexLine) (clearing : ℕ) → termsAsked o clearing ≡ true → termsFit (indexTerms o clearing) ≡ true
