@@ -50,6 +50,7 @@ pub struct Terms {
     pub c: Levels,
 }
 
+// Whether the numbers of an O line are in their ranges.
 pub fn index_fits(o: IndexLine) -> bool
     ensures { λ r. ⌜ r ≡ indexFits o ⌝ }
 {
@@ -70,6 +71,7 @@ pub fn index_fits(o: IndexLine) -> bool
     laws::and(numbers, amounts)
 }
 
+// Whether the numbers of an S line are in their ranges and on their steps.
 pub fn stock_fits(s: StockLine) -> bool
     ensures { λ r. ⌜ r ≡ stockFits s ⌝ }
 {
@@ -88,12 +90,14 @@ pub fn stock_fits(s: StockLine) -> bool
     laws::and(numbers, rates)
 }
 
+// Whether an option's strike and price are in their ranges.
 fn option_fits(strike: u32, price: u32) -> bool
     ensures { λ r. ⌜ r ≡ optionFits strike price ⌝ }
 {
     laws::and(laws::in_range(1, 100000000, strike), price <= 100000000)
 }
 
+// What a lot or terms of each family are asked with.
 fn future_asked(s: StockLine, price: u32) -> bool
     ensures { λ r. ⌜ r ≡ futureAsked s price ⌝ }
 {
@@ -126,6 +130,7 @@ fn portion_of(price: u64, multiplier: u64, rate: u64) -> u64
     price * multiplier * rate
 }
 
+// The same at each level.
 fn portions_of(price: u64, multiplier: u64, rates: Levels) -> Levels
     requires { ⌜ (price ≤ 100000000) × ((multiplier ≤ 20000) × AtMost 121500 rates) ⌝ }
     ensures { λ r. ⌜ (r ≡ perLevel (portion price multiplier) rates) × AtMost 243000000000000000 r ⌝ }
@@ -137,6 +142,7 @@ fn portions_of(price: u64, multiplier: u64, rates: Levels) -> Levels
     }
 }
 
+// Dollars as exact amounts, and exact amounts as dollars, at each level.
 fn exact_dollars(l: Levels) -> Levels
     requires { ⌜ AtMost 100000000 l ⌝ }
     ensures { λ r. ⌜ (r ≡ perLevel dollars l) × AtMost 243000000000000000 r ⌝ }
@@ -165,6 +171,7 @@ pub fn premium_value(price: u32, multiplier: u32) -> u64
     rounding::half_up(price, multiplier, 1000, 1)
 }
 
+// The out-of-money amount, exact.
 fn out_of_money(call: bool, strike: u64, underlying: u64, multiplier: u64) -> u64
     requires { ⌜ (strike ≤ 100000000) × ((underlying ≤ 100000000) × (multiplier ≤ 20000)) ⌝ }
     ensures { λ r. ⌜ r ≡ outOfMoney call strike underlying multiplier ⌝ }
@@ -183,6 +190,7 @@ fn single_at(premium: u64, out: u64, a: u64, b: u64) -> u64
     rounding::to_dollar(premium + rounding::larger(rounding::less(a, out), b))
 }
 
+// The same at each level.
 fn singles(premium: u64, out: u64, a: Levels, b: Levels) -> Levels
     requires { ⌜ (premium ≤ 243000000000000000) × (AtMost 243000000000000000 a × AtMost 243000000000000000 b) ⌝ }
     ensures { λ r. ⌜ r ≡ bothLevels (single premium out) a b ⌝ }
@@ -261,6 +269,7 @@ fn no_terms() -> Terms
     }
 }
 
+// A lot of a future, and one of an option.
 fn future_lot(number: u8, margin: Levels) -> Lot
     ensures { λ r. ⌜ r ≡ futureLot number margin ⌝ }
 {

@@ -55,6 +55,7 @@ fn part_fits(part: u32) -> bool
     )
 }
 
+// What a fixed future is asked with.
 fn fixed_fits(clearing: u32, part: u32) -> bool
     ensures { λ r. ⌜ r ≡ fixedFits clearing part ⌝ }
 {
@@ -81,6 +82,7 @@ fn disposition_fits(disposition: u32) -> bool
     )
 }
 
+// Whether a clearing rate and a disposition are ones that a sheet can have.
 pub fn rates_fit(rate: u32, disposition: u32) -> bool
     ensures { λ r. ⌜ r ≡ ratesFit rate disposition ⌝ }
 {

@@ -55,6 +55,7 @@ pub fn to_dollar(fine: u64) -> u64
     steps_near(fine, 100000000)
 }
 
+// The larger of two numbers.
 pub fn larger(x: u64, y: u64) -> u64
     ensures { λ r. ⌜ r ≡ max x y ⌝ }
 {

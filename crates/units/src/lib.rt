@@ -113,6 +113,7 @@ fn future_option_at(r1: u32, margin: u64, r2: u32, premium: u64) -> u64
     r1 as u64 * margin + r2 as u64 * premium
 }
 
+// Kind 5, level by level.
 fn future_option_margin(r1: u32, margin: Levels, r2: u32, premium: u64) -> Levels
     requires { ⌜ (r1 ≤ 100) × (AtMost 4430000000 margin × ((r2 ≤ 100) × (premium ≤ 2000000000))) ⌝ }
     ensures { λ r. ⌜ r ≡ futureOptionMargin r1 margin r2 premium ⌝ }
@@ -135,6 +136,7 @@ fn larger_of(l: Levels, m: Levels) -> Levels
     }
 }
 
+// The formula of the kind.
 fn formula_of(
     kind: u32,
     first: Lot,
