@@ -10,8 +10,8 @@ use Rattle.rounding.specs.Rounding.{toDollar, halfUp, stepsNear}
 use Rattle.rounding.specs.RoundingLaws.{dollar-most}
 use Rattle.levels.specs.declared.Levels.{Levels}
 use Rattle.levels.specs.Levels.{perLevel, bothLevels, ratesOf, raised, halfOf, flat}
-use Rattle.levels.specs.Ranges.{clearingFits, levelsFit, ratesFit, rateFits, dispositionFits}
-use Rattle.levels.specs.RangeLaws.{AtMost, clearing-is}
+use Rattle.levels.specs.Ranges.{AtMost, clearingFits, levelsFit, ratesFit, rateFits, dispositionFits}
+use Rattle.levels.specs.RangeLaws.{clearing-is}
 use Rattle.levels.specs.LevelLaws.{each-at-most, both-at-most, rates-most, halves-most}
 use Rattle.amounts.specs.declared.IndexLine.{IndexLine}
 use Rattle.amounts.specs.declared.StockLine.{StockLine}

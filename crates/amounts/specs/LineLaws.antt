@@ -4,8 +4,8 @@ use mathlib.Core.Bool.{true}
 use Prim.Native.Nat.{ℕ, _≤_}
 use borrow.Author.Tests.{leb-true}
 use Rattle.laws.specs.TruthLaws.{both-true, within-true}
-use Rattle.levels.specs.Ranges.{ratesFit, clearingFits}
-use Rattle.levels.specs.RangeLaws.{AtMost, levels-are}
+use Rattle.levels.specs.Ranges.{AtMost, ratesFit, clearingFits}
+use Rattle.levels.specs.RangeLaws.{levels-are}
 use Rattle.amounts.specs.declared.IndexLine.{IndexLine}
 use Rattle.amounts.specs.declared.StockLine.{StockLine}
 use Rattle.amounts.specs.Lines.{indexFits, stockFits, optionFits, futureAsked, indexAsked, stockAsked, termsAsked}

@@ -3,7 +3,7 @@ ghost use mathlib.Core.Path.{_≡_};
 ghost use mathlib.Core.Bool.{true};
 ghost use Prim.Native.Nat.{_≤_};
 ghost use Rattle.levels.specs.Levels.{perLevel, bothLevels};
-ghost use Rattle.levels.specs.RangeLaws.{AtMost};
+ghost use Rattle.levels.specs.Ranges.{AtMost};
 ghost use Rattle.laws.specs.Truth.{pick};
 ghost use Rattle.rounding.specs.Rounding.{toDollar};
 ghost use Rattle.amounts.specs.Lines.{indexFits, stockFits, optionFits, futureAsked, indexAsked, stockAsked, termsAsked};

@@ -9,8 +9,8 @@ use Rattle.laws.specs.TruthLaws.{both-true}
 use Rattle.rounding.specs.Rounding.{roundUp, halfUp}
 use Rattle.rounding.specs.RoundingLaws.{rounds-up, up-below, near-above}
 use Rattle.levels.specs.declared.Levels.{Levels}
-use Rattle.levels.specs.Ranges.{partFits, fixedFits, rateFits, ratesFit}
-use Rattle.levels.specs.RangeLaws.{AtMost, clearing-is, part-is, rate-is, fixed-is, rates-are}
+use Rattle.levels.specs.Ranges.{AtMost, partFits, fixedFits, rateFits, ratesFit}
+use Rattle.levels.specs.RangeLaws.{clearing-is, part-is, rate-is, fixed-is, rates-are}
 use Rattle.levels.specs.Levels.{perLevel, bothLevels, levelsOf, partOf, raised, ratesOf, stockRates, halfOf}
 
 -- What bounds one level bounds each.

@@ -9,7 +9,7 @@ use borrow.Author.Tests.{leb-true, le-leb, eqb-true}
 use Rattle.laws.specs.Truth.{either}
 use Rattle.laws.specs.TruthLaws.{both-true, either-true, within-true}
 use Rattle.levels.specs.declared.Levels.{Levels}
-use Rattle.levels.specs.Ranges.{clearingFits, partFits, rateFits, dispositionFits, levelsFit, fixedFits, ratesFit}
+use Rattle.levels.specs.Ranges.{AtMost, clearingFits, partFits, rateFits, dispositionFits, levelsFit, fixedFits, ratesFit}
 
 pub clearing-is : (n : ℕ) → clearingFits n ≡ true → (n ≤ 100000000) × (n % 1000 ≡ 0)
 unfolding clearingFits
@@ -50,12 +50,6 @@ unfolding ratesFit
 rates-are rate disposition e =
     let h = both-true _ _ e in
     (rate-is rate (h .0) .1 .0, disposition-is (λ (n : ℕ). n ≤ 30) disposition (lit≤ tt) (lit≤ tt) (lit≤ tt) (lit≤ tt) (h .1))
-
--- Every level is at most `most`.
-pub record AtMost (most : ℕ) (l : Levels) : Type 0 where
-  pub at-clearing : l .clearing ≤ most
-  pub at-maintenance : l .maintenance ≤ most
-  pub at-initial : l .initial ≤ most
 
 pub levels-are : (most : ℕ) (l : Levels) → levelsFit most l ≡ true → AtMost most l
 unfolding levelsFit

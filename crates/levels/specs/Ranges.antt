@@ -1,6 +1,6 @@
 -- Document 01, "Rates and amounts" and "Text" (sheet): what the numbers of a sheet may be.
 use mathlib.Core.Bool.{Bool}
-use Prim.Native.Nat.{ℕ, _%_}
+use Prim.Native.Nat.{ℕ, _%_, _≤_}
 use lib.Dec.{leb, eqb}
 use Rattle.laws.specs.Truth.{both, either, within}
 use Rattle.levels.specs.declared.Levels.{Levels}
@@ -30,3 +30,9 @@ ratesFit rate disposition = both (rateFits rate) (dispositionFits disposition)
 -- No level is above `most`.
 unfoldable pub levelsFit : ℕ → Levels → Bool
 levelsFit most l = both (leb (l .clearing) most) (both (leb (l .maintenance) most) (leb (l .initial) most))
+
+-- The same as facts (RangeLaws: one says the other).
+pub record AtMost (most : ℕ) (l : Levels) : Type 0 where
+  pub at-clearing : l .clearing ≤ most
+  pub at-maintenance : l .maintenance ≤ most
+  pub at-initial : l .initial ≤ most

@@ -10,17 +10,12 @@ use Rattle.laws.specs.Checks.{allPass, numbered}
 use Rattle.laws.specs.CheckLaws.{accepted}
 use Rattle.levels.specs.declared.Levels.{Levels}
 use Rattle.levels.specs.Levels.{flat}
-use Rattle.levels.specs.RangeLaws.{AtMost, levels-are, levels-fit}
+use Rattle.levels.specs.Ranges.{AtMost}
+use Rattle.levels.specs.RangeLaws.{levels-are, levels-fit}
 use Rattle.amounts.specs.declared.Lot.{Lot}
 use Rattle.amounts.specs.declared.Terms.{Terms}
-use Rattle.units.specs.Limits.{lotLimit, premiumLimit, tenthLimit, cLimit, lotFits, termsFit}
+use Rattle.units.specs.Limits.{lotFits, termsFit, LotFacts, TermsFacts, UnitFacts}
 use Rattle.units.specs.Units.{lowerPremium, cCharged, unitChecks, unitNumber}
-
-pub record LotFacts (l : Lot) : Type 0 where
-  pub margin-most : AtMost lotLimit (l .margin)
-  pub premium-most : l .premium ≤ premiumLimit
-  pub price-most : l .price ≤ 100000000
-  pub strike-most : l .strike ≤ 100000000
 
 pub lot-is : (l : Lot) → lotFits l ≡ true → LotFacts l
 unfolding lotFits
@@ -41,11 +36,6 @@ unfolding lotFits
 lot-fits l e f =
     simp (eq-eqb _ _ e, levels-fit _ _ (f .margin-most), le-leb _ _ (f .premium-most), le-leb _ _ (f .price-most), le-leb _ _ (f .strike-most))
 
-pub record TermsFacts (t : Terms) : Type 0 where
-  pub multiplier-most : t .multiplier ≤ 20000
-  pub tenth-most : t .tenth ≤ tenthLimit
-  pub c-most : AtMost cLimit (t .c)
-
 pub terms-are : (t : Terms) → termsFit t ≡ true → TermsFacts t
 unfolding termsFit
 terms-are t e =
@@ -57,13 +47,6 @@ terms-are t e =
 pub terms-fit : (t : Terms) → t .number ≡ 0 → TermsFacts t → termsFit t ≡ true
 unfolding termsFit
 terms-fit t e f = simp (eq-eqb _ _ e, le-leb _ _ (f .multiplier-most), le-leb _ _ (f .tenth-most), levels-fit _ _ (f .c-most))
-
-pub record UnitFacts (first second : Lot) (terms : Terms) (r1 r2 : ℕ) : Type 0 where
-  pub first-is : LotFacts first
-  pub second-is : LotFacts second
-  pub terms-is : TermsFacts terms
-  pub r1-most : r1 ≤ 100
-  pub r2-most : r2 ≤ 100
 
 -- A unit that is not refused.
 pub unit-is : (kind : ℕ) (first second : Lot) (terms : Terms) (r1 r2 : ℕ) → unitNumber kind first second terms r1 r2 ≡ 0 → UnitFacts first second terms r1 r2

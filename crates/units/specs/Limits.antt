@@ -1,10 +1,10 @@
 -- How large the amounts of one lot can be, from what a sheet can hold (document 01, "Text"); UnitLaws: the lots and terms of every
 -- sound line keep to it.
 use mathlib.Core.Bool.{Bool}
-use Prim.Native.Nat.{ℕ}
+use Prim.Native.Nat.{ℕ, _≤_}
 use lib.Dec.{leb, eqb}
 use Rattle.laws.specs.Truth.{both}
-use Rattle.levels.specs.Ranges.{levelsFit}
+use Rattle.levels.specs.Ranges.{levelsFit, AtMost}
 use Rattle.amounts.specs.declared.Lot.{Lot}
 use Rattle.amounts.specs.declared.Terms.{Terms}
 
@@ -34,3 +34,22 @@ termsFit t =
     both (eqb (t .number) 0)
     (both (leb (t .multiplier) 20000)
     (both (leb (t .tenth) tenthLimit) (levelsFit cLimit (t .c))))
+
+-- The same as facts (LimitLaws), and what is known of a unit that is not refused.
+pub record LotFacts (l : Lot) : Type 0 where
+  pub margin-most : AtMost lotLimit (l .margin)
+  pub premium-most : l .premium ≤ premiumLimit
+  pub price-most : l .price ≤ 100000000
+  pub strike-most : l .strike ≤ 100000000
+
+pub record TermsFacts (t : Terms) : Type 0 where
+  pub multiplier-most : t .multiplier ≤ 20000
+  pub tenth-most : t .tenth ≤ tenthLimit
+  pub c-most : AtMost cLimit (t .c)
+
+pub record UnitFacts (first second : Lot) (terms : Terms) (r1 r2 : ℕ) : Type 0 where
+  pub first-is : LotFacts first
+  pub second-is : LotFacts second
+  pub terms-is : TermsFacts terms
+  pub r1-most : r1 ≤ 100
+  pub r2-most : r2 ≤ 100

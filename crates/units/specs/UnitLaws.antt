@@ -13,8 +13,8 @@ use Rattle.laws.specs.KindLaws.{each-kind}
 use Rattle.rounding.specs.RoundingLaws.{dollar-most}
 use Rattle.levels.specs.declared.Levels.{Levels}
 use Rattle.levels.specs.Levels.{perLevel, bothLevels, flat, fixedLevels}
-use Rattle.levels.specs.Ranges.{fixedFits}
-use Rattle.levels.specs.RangeLaws.{AtMost, at-most-more, clearing-is}
+use Rattle.levels.specs.Ranges.{AtMost, fixedFits}
+use Rattle.levels.specs.RangeLaws.{at-most-more, clearing-is}
 use Rattle.levels.specs.LevelLaws.{each-at-most, both-at-most, fixed-most}
 use Rattle.amounts.specs.declared.IndexLine.{IndexLine}
 use Rattle.amounts.specs.declared.StockLine.{StockLine}
@@ -25,9 +25,9 @@ use Rattle.amounts.specs.Lines.{stockFits, futureAsked, indexAsked, stockAsked,
 use Rattle.amounts.specs.LineLaws.{OptionFacts, index-is, stock-is, option-is, future-asked-is, index-asked-is, stock-asked-is, terms-asked-is}
 use Rattle.amounts.specs.Lots.{futureLot, optionLot, fixedFuture, stockFuture, indexOption, stockOption, indexTerms, stockTerms}
 use Rattle.amounts.specs.AmountLaws.{worth-most, premium-most, future-most, index-most, stock-most, c-value-most, tenth-most}
-use Rattle.units.specs.Limits.{lotLimit, premiumLimit, cLimit, lotFits, termsFit}
+use Rattle.units.specs.Limits.{lotLimit, premiumLimit, cLimit, lotFits, termsFit, LotFacts, UnitFacts}
 use Rattle.units.specs.Units.{debitMargin, creditMargin, timeMargin, lowerPremium, mixedAt, mixedMargin, futureOptionMargin, conversionMargin, calendarMargin, productsMargin, formula, unitChecks, unitNumber, unitMargin}
-use Rattle.units.specs.LimitLaws.{LotFacts, UnitFacts, lot-fits, terms-fit, lower-most, charged-most}
+use Rattle.units.specs.LimitLaws.{lot-fits, terms-fit, lower-most, charged-most}
 
 -- A lot is taken where its margin keeps to the limit.
 future-lot : (margin : Levels) → AtMost lotLimit margin → lotFits (futureLot 0 margin) ≡ true

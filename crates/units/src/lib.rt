@@ -2,10 +2,9 @@
 ghost use mathlib.Core.Path.{_≡_};
 ghost use Prim.Native.Nat.{_+_, _*_, _≤_, max};
 ghost use Rattle.levels.specs.Levels.{bothLevels};
-ghost use Rattle.levels.specs.RangeLaws.{AtMost};
-ghost use Rattle.units.specs.Limits.{lotFits, termsFit};
+ghost use Rattle.levels.specs.Ranges.{AtMost};
+ghost use Rattle.units.specs.Limits.{lotFits, termsFit, LotFacts, UnitFacts};
 ghost use Rattle.units.specs.Units.{creditMargin, timeMargin, lowerPremium, mixedAt, mixedMargin, cCharged, futureOptionMargin, formula, unitNumber, unitMargin};
-ghost use Rattle.units.specs.LimitLaws.{LotFacts, UnitFacts};
 use amounts::Lot;
 use amounts::Terms;
 use levels::Answer;
