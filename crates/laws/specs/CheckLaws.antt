@@ -88,3 +88,12 @@ first-of-two [] ds k = refl
 first-of-two (c ∷ cs) ds k =
     let h = both-true (ltb 0 (c .number)) (numbered cs) k in
     rw (first-of-two cs ds (h .1), firstFailing) (one-more (c .number) (c .passes) (firstFailing cs) (firstFailing ds) (ltb-true 0 (c .number) (h .0)))
+
+-- And none of both fails where none of each does.
+pub pass-both : (cs ds : List Check) → allPass (cs ++ ds) ≡ true → (allPass cs ≡ true) × (allPass ds ≡ true)
+unfolding allPass
+pass-both [] ds e = (refl, e)
+pass-both (c ∷ cs) ds e =
+    let h = both-true (c .passes) (allPass (cs ++ ds)) e in
+    let k = pass-both cs ds (h .1) in
+    (rw (h .0) (k .0), k .1)

@@ -1,5 +1,6 @@
 -- The laws of the order of numbers.
 use mathlib.Core.Path.{_≡_, refl, sym, subst, _∙_, ap}
+use mathlib.Core.Bool.{true}
 use mathlib.Core.List.{List, [], _∷_}
 use Prim.Native.Nat.{ℕ, _+_, _*_, _<_, _≤_}
 use native.Mathlib.Nat.{mul-le-mul-right, add-mul, one-mul}
@@ -7,10 +8,12 @@ use native.Mathlib.Decide.{decLt}
 use native.Mathlib.Omega.{arith}
 use borrow.Author.Tests.{lt-ltb, le-ltb, eq-eqb, ne-eqb}
 use lib.ListN.{length, getD}
-use Rattle.laws.specs.ByteLaws.{three-bytes}
+use Rattle.laws.specs.TruthLaws.{clash, false-unless}
+use Rattle.laws.specs.Bytes.{sameBytes}
+use Rattle.laws.specs.ByteLaws.{are-same, same-self, three-bytes}
 use Rattle.laws.specs.declared.Order.{Order}
 use Rattle.laws.specs.declared.Order.the-variants.{Less, Same, More}
-use Rattle.laws.specs.Order.{orderOf, thenBy, bytesOrder, join}
+use Rattle.laws.specs.Order.{orderOf, isLess, isSame, thenBy, bytesOrder, join}
 
 pub is-less : {m n : ℕ} → m < n → Less ≡ orderOf m n
 unfolding orderOf
@@ -86,6 +89,68 @@ same-text (a ∷ x) (b ∷ y) e =
     let p = same-says a b (h .0) in
     let q = same-text x y (h .1) in
     λ i. p i ∷ q i
+
+-- A text is the same as itself, and one that is more than a second leaves the second less.
+pub text-self : (x : List ℕ) → bytesOrder x x ≡ Same
+unfolding bytesOrder
+text-self [] = refl
+text-self (a ∷ x) = rw (sym (is-same {m = a} refl)) (text-self x)
+
+pub turned : (x y : List ℕ) → bytesOrder x y ≡ More → bytesOrder y x ≡ Less
+unfolding bytesOrder
+turned [] [] = λ e. apart e (λ q. omega arith)
+turned [] (b ∷ y) = λ e. apart e (λ q. omega arith)
+turned (a ∷ x) [] = λ e. refl
+turned (a ∷ x) (b ∷ y) =
+    split (λ (o : Order). thenBy o (bytesOrder x y) ≡ More → thenBy (orderOf b a) (bytesOrder y x) ≡ Less) a b
+    (λ lt e. apart e (λ q. omega arith))
+    (λ is e. rw (sym (is-same (sym is))) (turned x y e))
+    (λ gt e. rw (sym (is-less gt)))
+
+-- A text before a second, which is before a third, is before the third; and none is before itself.
+pub text-before : (x y z : List ℕ) → bytesOrder x y ≡ Less → bytesOrder y z ≡ Less → bytesOrder x z ≡ Less
+unfolding bytesOrder
+text-before x [] [] = λ e f. apart f (λ q. omega arith)
+text-before x (b ∷ y) [] = λ e f. apart f (λ q. omega arith)
+text-before [] y (c ∷ z) = λ e f. refl
+text-before (a ∷ x) [] (c ∷ z) = λ e f. apart e (λ q. omega arith)
+text-before (a ∷ x) (b ∷ y) (c ∷ z) =
+    split (λ (o : Order). thenBy o (bytesOrder x y) ≡ Less → thenBy (orderOf b c) (bytesOrder y z) ≡ Less → thenBy (orderOf a c) (bytesOrder x z) ≡ Less) a b
+    (λ lt e. split (λ (o : Order). thenBy o (bytesOrder y z) ≡ Less → thenBy (orderOf a c) (bytesOrder x z) ≡ Less) b c
+    (λ lu f. rw (sym (is-less {m = a} {n = c} (omega arith))))
+    (λ is f. rw (sym (is-less {m = a} {n = c} (omega arith))))
+    (λ gt f. apart f (λ q. omega arith)))
+    (λ is e. split (λ (o : Order). thenBy o (bytesOrder y z) ≡ Less → thenBy (orderOf a c) (bytesOrder x z) ≡ Less) b c
+    (λ lu f. rw (sym (is-less {m = a} {n = c} (omega arith))))
+    (λ it f. rw (sym (is-same {m = a} {n = c} (omega arith))) (text-before x y z e f))
+    (λ gt f. apart f (λ q. omega arith)))
+    (λ gt e. apart e (λ q. omega arith))
+
+pub not-before-self : (x : List ℕ) → bytesOrder x x ≡ Less → ⊥
+not-before-self x e = apart (sym (text-self x) ∙ e) (λ q. omega arith)
+
+-- By the order of two texts, as `split` is by that of two numbers.
+pub split-text : (P : Order → Type 0) (x y : List ℕ) → (bytesOrder x y ≡ Less → P Less) → (x ≡ y → P Same) → (bytesOrder y x ≡ Less → P More) → P (bytesOrder x y)
+split-text P x y less same more = go (bytesOrder x y) refl
+  where
+    go : (o : Order) → bytesOrder x y ≡ o → P o
+    go Less e = less e
+    go Same e = same (same-text x y e)
+    go More e = more (turned x y e)
+
+-- Texts are the same where their order says so.
+pub same-in-order : (x y : List ℕ) → isSame (bytesOrder x y) ≡ sameBytes x y
+same-in-order x y =
+    split-text (λ (o : Order). isSame o ≡ sameBytes x y) x y
+    (λ lt. sym (false-unless (sameBytes x y) (λ q. not-before-self y (subst (λ (z : List ℕ). bytesOrder z y ≡ Less) (are-same x y q) lt))))
+    (λ is. sym (rw is (same-self y)))
+    (λ gt. sym (false-unless (sameBytes x y) (λ q. not-before-self y (subst (λ (z : List ℕ). bytesOrder y z ≡ Less) (are-same x y q) gt))))
+
+-- What a step of an order says to be less is so.
+pub is-less-says : (o : Order) → isLess o ≡ true → o ≡ Less
+is-less-says Less e = refl
+is-less-says Same e = absurd (clash e refl)
+is-less-says More e = absurd (clash e refl)
 
 higher : (base a b x y : ℕ) → x < base → a < b → join base a x < join base b y
 unfolding join

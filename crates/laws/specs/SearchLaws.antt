@@ -2,7 +2,8 @@
 use mathlib.Core.Path.{_≡_, refl}
 use mathlib.Core.Bool.{Bool, true, false}
 use mathlib.Core.List.{List, [], _∷_}
-use Prim.Native.Nat.{ℕ, _+_, _≤_, _<_}
+use Prim.Native.Nat.{ℕ, zero, suc, _+_, _≤_, _<_}
+use native.Mathlib.Omega.{arith}
 use native.Mathlib.Numerals.{add-one}
 use lib.ListN.{getD, drop, length, drop-of-length-le}
 use lib.Seq.{drop-cons}
@@ -38,3 +39,15 @@ module _ {A B : Type 0} (P : B → Type 0) (named test : A → Bool) (made : A �
   found-has (l ∷ ls) e h k =
       let t = both-true (test l) (everyLine test ls) e in
       picked P (named l) (made l) (firstWhere named made none ls) (h l (t .0)) (λ (q : named l ≡ false). found-has ls (t .1) h k)
+
+-- A test that always holds holds of every line, and one that every line passes holds of each; a test that is weaker passes too.
+pub every-always : {A : Type 0} (test : A → Bool) → ((x : A) → test x ≡ true) → (ls : List A) → everyLine test ls ≡ true
+unfolding everyLine
+every-always test h [] = refl
+every-always test h (l ∷ ls) = rw (h l) (every-always test h ls)
+
+pub every-at : {A : Type 0} (test : A → Bool) (ls : List A) (i : ℕ) (d : A) → everyLine test ls ≡ true → i < length ls → test (getD ls i d) ≡ true
+unfolding everyLine
+every-at test [] i d e h = absurd (omega arith)
+every-at test (l ∷ ls) zero d e h = both-true (test l) (everyLine test ls) e .0
+every-at test (l ∷ ls) (suc i) d e h = every-at test ls i d (both-true (test l) (everyLine test ls) e .1) (omega arith)

@@ -24,6 +24,9 @@ pub both-true : (x y : Bool) → both x y ≡ true → (x ≡ true) × (y ≡ tr
 both-true true y e = (refl, e)
 both-true false y e = absurd (clash e refl)
 
+pub both-hold : {x y : Bool} → x ≡ true → y ≡ true → both x y ≡ true
+both-hold e f = rw (e, f)
+
 pub either-true : (x y : Bool) → either x y ≡ true → (x ≡ true) ⊎ (y ≡ true)
 either-true true y e = inl refl
 either-true false y e = inr e
@@ -41,3 +44,19 @@ within-true least greatest x e =
 pub picked : {A : Type 0} (P : A → Type 0) (b : Bool) (x y : A) → (b ≡ true → P x) → (b ≡ false → P y) → P (pick b x y)
 picked P true x y h k = h refl
 picked P false x y h k = k refl
+
+-- A test that cannot be true is false.
+pub false-unless : (b : Bool) → (b ≡ true → ⊥) → b ≡ false
+false-unless true h = absurd (h refl)
+false-unless false h = refl
+
+-- By a test: what holds where it is true and where it is false, holds.
+pub by-test : (P : Bool → Type 0) (b : Bool) → (b ≡ true → P true) → (b ≡ false → P false) → P b
+by-test P true h k = h refl
+by-test P false h k = k refl
+
+-- Two tests of which each holds where the other does are the same.
+pub same-test : (a b : Bool) → (a ≡ true → b ≡ true) → (b ≡ true → a ≡ true) → a ≡ b
+same-test true b h k = sym (h refl)
+same-test false true h k = k refl
+same-test false false h k = refl

@@ -2,7 +2,7 @@
 ghost use mathlib.Core.Path.{_≡_};
 ghost use Rattle.laws.specs.Truth.{pick, both, either, within};
 ghost use Rattle.laws.specs.Checks.{orElse};
-ghost use Rattle.laws.specs.Order.{orderOf, thenBy};
+ghost use Rattle.laws.specs.Order.{orderOf, isLess, isSame, thenBy};
 
 pub enum Order {
     Less,
@@ -61,6 +61,26 @@ pub fn order_of(m: u64, n: u64) -> Order
         return Order::More;
     }
     Order::Same
+}
+
+pub fn is_less(o: Order) -> bool
+    ensures { λ r. ⌜ r ≡ isLess o ⌝ }
+{
+    match o {
+        Order::Less => true,
+        Order::Same => false,
+        Order::More => false,
+    }
+}
+
+pub fn is_same(o: Order) -> bool
+    ensures { λ r. ⌜ r ≡ isSame o ⌝ }
+{
+    match o {
+        Order::Less => false,
+        Order::Same => true,
+        Order::More => false,
+    }
 }
 
 // The order by a first key, and by a second where the first is the same.

@@ -26,7 +26,7 @@ use Rattle.series.specs.declared.Side.the-variants.{Long, Short}
 use Rattle.pairing.specs.Rules.{debitVertical, creditVertical, timeSpread, twoShort, futureWithOption, conversion, calendar, betweenProducts, noRule, partsOf, pairChecks, pairNumber, mayStand}
 use Rattle.pairing.specs.Sides.{firstSide, secondSide}
 
-pairs-numbered : (p : Parts) → numbered (pairChecks p) ≡ true
+pub pairs-numbered : (p : Parts) → numbered (pairChecks p) ≡ true
 unfolding numbered pairChecks
 pairs-numbered p = refl
 

@@ -7,6 +7,7 @@ use Rattle.laws.specs.declared.Order.{Order}
 use Rattle.laws.specs.Order.{orderOf, thenBy, bytesOrder, join}
 use Rattle.series.specs.declared.Series.{Series}
 use Rattle.series.specs.declared.Nature.{Nature}
+use Rattle.series.specs.declared.Halves.{Halves}
 use Rattle.series.specs.Natures.{letterOf, strikeOf}
 
 -- the order in the paper's words
@@ -31,6 +32,10 @@ highKey s = join (2 ^ 32) (codeKey (s .code)) (s .date)
 
 unfoldable pub key : Series → ℕ
 key s = join (2 ^ 40) (highKey s) (natureKey (s .nature))
+
+-- its two halves, by which rows are searched
+abbrev pub halvesOf : Series → Halves
+halvesOf s = record { high = highKey s; low = natureKey (s .nature) }
 
 unfoldable pub seriesOrder : Series → Series → Order
 seriesOrder a b = orderOf (key a) (key b)

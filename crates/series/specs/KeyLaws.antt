@@ -2,7 +2,7 @@
 use mathlib.Core.Path.{_≡_, refl, sym, _∙_, ap}
 use mathlib.Core.Logic.{_⊎_, inl, inr}
 use mathlib.Core.Bool.{true}
-use mathlib.Core.List.{List}
+use mathlib.Core.List.{List, [], _∷_}
 use Prim.Native.Nat.{ℕ, _<_, _≤_, _^_}
 use native.Mathlib.Omega.{arith}
 use lib.ListN.{getD}
@@ -11,7 +11,7 @@ use Rattle.laws.specs.declared.Order.the-variants.{Less, Same}
 use Rattle.laws.specs.TruthLaws.{both-true, within-true}
 use Rattle.laws.specs.Checks.{allPass}
 use Rattle.laws.specs.Order.{orderOf, thenBy, bytesOrder, join}
-use Rattle.laws.specs.OrderLaws.{join-order, both-same, then-by-then, same-text, is-less, is-same, less-says, same-says, split, three-order}
+use Rattle.laws.specs.OrderLaws.{join-order, both-same, then-by-then, then-same, same-text, is-less, is-same, less-says, same-says, split, three-order}
 use Rattle.dates.specs.CalendarLaws.{day-fits}
 use Rattle.series.specs.declared.Series.{Series}
 use Rattle.codes.specs.declared.Class.{Class}
@@ -89,6 +89,12 @@ same-nature (Call k) (Put l) e f = absurd (omega arith)
 same-nature (Put k) Future e f = absurd (omega arith)
 same-nature (Put k) (Call l) e f = absurd (omega arith)
 same-nature (Put k) (Put l) e f = ap Put f
+
+-- And it is that of the two halves of their keys.
+pub halves-order : (a b : Series) → goodSeries a ≡ true → goodSeries b ≡ true → bytesOrder (highKey a ∷ natureKey (a .nature) ∷ []) (highKey b ∷ natureKey (b .nature) ∷ []) ≡ seriesOrder a b
+unfolding bytesOrder
+halves-order a b ga gb =
+    ap (thenBy (orderOf (highKey a) (highKey b))) (then-same _) ∙ by-halves a b (nature-fits (a .nature) (good-fits a ga .strike)) (nature-fits (b .nature) (good-fits b gb .strike)) refl
 
 -- Only one series is the same in the order as a series that passes the checks: itself.
 pub same-series : (a b : Series) → goodSeries a ≡ true → goodSeries b ≡ true → seriesOrder a b ≡ Same → a ≡ b

@@ -3,7 +3,7 @@ ghost use mathlib.Core.Path.{_≡_};
 ghost use Prim.Native.Nat.{_<_};
 ghost use Rattle.series.specs.Checks.{strikeFits, suits, seriesNumber};
 ghost use Rattle.series.specs.Natures.{isFuture, isCall, isPut, letterOf, strikeOf};
-ghost use Rattle.series.specs.Key.{highKey, natureKey, seriesOrder};
+ghost use Rattle.series.specs.Key.{highKey, natureKey, halvesOf, seriesOrder};
 use codes::Class;
 use laws::Order;
 
@@ -18,6 +18,12 @@ pub struct Series {
     pub code: [u8; 3],
     pub date: u32,
     pub nature: Nature,
+}
+
+// The key of a series as two numbers: code and date, nature and strike.
+pub struct Halves {
+    pub high: u64,
+    pub low: u64,
 }
 
 // The two sides on which lots of a series are held.
@@ -138,6 +144,17 @@ fn low_key(n: Nature) -> u64
     ensures { λ r. ⌜ (r ≡ natureKey n) × (r < 1099511627776) ⌝ }
 {
     wide8(letter_of(n)) * 4294967296 + wide32(strike_of(n))
+}
+
+// The key of a series, half by half.
+pub fn halves_of(s: Series) -> Halves
+    ensures { λ r. ⌜ r ≡ halvesOf s ⌝ }
+{
+    let n = s.nature;
+    Halves {
+        high: high_key(s),
+        low: low_key(n),
+    }
 }
 
 // The order of two series.

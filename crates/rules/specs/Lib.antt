@@ -1,0 +1,4 @@
+pub mod Lots
+pub mod LotLaws
+pub mod Rules
+pub mod RuleLaws

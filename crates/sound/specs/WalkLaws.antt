@@ -1,0 +1,488 @@
+-- Laws of the walk over the legs of pairs: the row of a leg is found by halving, and each leg takes its lots from its row.
+use mathlib.Core.Path.{_≡_, refl, ap, sym, _∙_, subst}
+use mathlib.Core.Bool.{Bool, true, false, not}
+use mathlib.Core.List.{List, [], _∷_, _++_}
+use Prim.Native.Nat.{ℕ, _+_, _-_, _*_, _<_, _≤_}
+use native.Mathlib.Omega.{arith}
+use native.Mathlib.Decide.{decLt}
+use native.Mathlib.Numerals.{add-one}
+use lib.Dec.{leb}
+use lib.ListN.{getD, length, take, drop, set, replicate, length-take, length-set, take-append-drop, drop-of-length-le}
+use lib.Seq.{drop-cons, getD-take, getD-set-same, getD-set-other, take-set-lt, drop-set-lt}
+use borrow.Author.Tests.{le-leb, lt-leb, leb-true, leb-false}
+use Rattle.laws.specs.declared.Order.{Order}
+use Rattle.laws.specs.declared.Order.the-variants.{Less}
+use Rattle.laws.specs.Truth.{both}
+use Rattle.laws.specs.TruthLaws.{both-true, both-end, clash, by-test, failed, passed}
+use Rattle.laws.specs.ByteLaws.{are-same, same-self}
+use Rattle.laws.specs.Search.{everyLine}
+use Rattle.laws.specs.Checks.{allPass}
+use Rattle.laws.specs.SearchLaws.{every-at}
+use Rattle.laws.specs.Order.{isLess, bytesOrder}
+use Rattle.laws.specs.OrderLaws.{text-before, split-text, is-less-says}
+use Rattle.lists.specs.Places.{full}
+use Rattle.lists.specs.PlaceLaws.{length-full, drop-full}
+use Rattle.lists.specs.Sorted.{ascending, stands}
+use Rattle.lists.specs.SortedLaws.{look-none, absent-between, look-at, map-at, mapped-ascends, before-at}
+use Rattle.dates.specs.Calendar.{isDay}
+use Rattle.series.specs.declared.Series.{Series}
+use Rattle.series.specs.declared.Nature.the-variants.{Future}
+use Rattle.series.specs.declared.Side.{Side}
+use Rattle.series.specs.declared.Halves.{Halves}
+use Rattle.series.specs.Checks.{goodSeries}
+use Rattle.series.specs.Key.{highKey, natureKey, halvesOf}
+use Rattle.series.specs.KeyLaws.{halves-order}
+use Rattle.pairing.specs.Sides.{firstSide, secondSide}
+use Rattle.rows.specs.declared.Holding.{Holding}
+use Rattle.rows.specs.declared.Pair.{Pair}
+use Rattle.rows.specs.declared.Book.{Book}
+use Rattle.rows.specs.Rows.{seriesRank, holdingRank, pairRank, sameSeries, newHolding, lotsOn, lessened, emptyHolding, emptyPair}
+use Rattle.rows.specs.RowLaws.{rank-order, lessened-rank}
+use Rattle.rows.specs.Book.{holdingsOf, pairsOf, holdingIn}
+use Rattle.rules.specs.Lots.{Leg, firstLeg, secondLeg, total, covered}
+use Rattle.rules.specs.Rules.{accountFits, isIdentity, goodHolding, goodPair, holdingsSound, pairsSound, bookRules, soundBook}
+use Rattle.rules.specs.RuleLaws.{SoundRows, Counts, counts-are, GoodPair, pair-is, holdings-are, pairs-are}
+use Rattle.rules.specs.LotLaws.{legsOf, takenFrom, takes, covers, afterLegs, taken-rank, new-lots, covers-is, after-is}
+use Rattle.sound.specs.declared.Taken.{Taken}
+use Rattle.sound.specs.declared.Checked.{Checked}
+use Rattle.sound.specs.Checked.{notSound, checkedAs, checkedBook}
+
+-- the key of the row i, half by half
+abbrev pub keyAt : List ℕ → List ℕ → ℕ → List ℕ
+keyAt highs lows i = getD highs i 0 ∷ getD lows i 0 ∷ []
+
+-- what a row behind the end would be
+abbrev pub noRow : Holding
+noRow = record { series = record { code = []; date = 0; nature = Future }; long = 0; short = 0 }
+
+abbrev pub halves : Series → List ℕ
+halves s = highKey s ∷ natureKey (s .nature) ∷ []
+
+-- Keys of n rows in order, which can be searched by halving.
+pub record Rising (highs lows : List ℕ) (n : ℕ) : Type 0 where
+  pub highs-long : n ≤ length highs
+  pub lows-long : n ≤ length lows
+  pub rising : (i j : ℕ) → i < j → j < n → bytesOrder (keyAt highs lows i) (keyAt highs lows j) ≡ Less
+
+-- r is the first of the n rows that is not before the key k.
+pub record PlaceIs (highs lows : List ℕ) (n : ℕ) (k : List ℕ) (r : ℕ) : Type 0 where
+  pub inside : r ≤ n
+  pub below : (i : ℕ) → i < r → bytesOrder (keyAt highs lows i) k ≡ Less
+  pub rest : (i : ℕ) → r ≤ i → i < n → bytesOrder (keyAt highs lows i) k ≡ Less → ⊥
+
+-- Halving: rows below `low` are before the key, rows from `high` on are not.
+pub record Halving (highs lows : List ℕ) (n : ℕ) (k : List ℕ) (low high : ℕ) : Type 0 where
+  pub apart : low ≤ high
+  pub inside : high ≤ n
+  pub below : (i : ℕ) → i < low → bytesOrder (keyAt highs lows i) k ≡ Less
+  pub rest : (i : ℕ) → high ≤ i → i < n → bytesOrder (keyAt highs lows i) k ≡ Less → ⊥
+
+pub halving-starts : (highs lows : List ℕ) (n : ℕ) (k : List ℕ) → Halving highs lows n k 0 n
+halving-starts highs lows n k = record { apart = omega arith; inside = omega arith; below = λ i lt. absurd (omega arith); rest = λ i le lt. absurd (omega arith) }
+
+module _ {highs lows : List ℕ} {n : ℕ} {k : List ℕ} {low high : ℕ} (s : Rising highs lows n) (h : Halving highs lows n k low high) (mid : ℕ) (from : low ≤ mid) (to : mid < high) where
+  pub halving-up : bytesOrder (keyAt highs lows mid) k ≡ Less → Halving highs lows n k (mid + 1) high
+  halving-up e =
+      record {
+        apart = omega arith;
+        inside = h .inside;
+        below = λ i lt. go i lt (decLt i mid);
+        rest = h .rest;
+      }
+    where
+      go : (i : ℕ) → i < mid + 1 → Dec (i < mid) → bytesOrder (keyAt highs lows i) k ≡ Less
+      go i lt (yes q) = let top = h .inside in text-before (keyAt highs lows i) (keyAt highs lows mid) k (s .rising i mid q (omega arith)) e
+      go i lt (no q) = let is : mid ≡ i = omega arith in subst (λ (j : ℕ). bytesOrder (keyAt highs lows j) k ≡ Less) is e
+
+  pub halving-down : (bytesOrder (keyAt highs lows mid) k ≡ Less → ⊥) → Halving highs lows n k low mid
+  halving-down e =
+      record {
+        apart = omega arith;
+        inside = let top = h .inside in omega arith;
+        below = h .below;
+        rest = λ i le lt. go i le lt (decLt mid i);
+      }
+    where
+      go : (i : ℕ) → mid ≤ i → i < n → Dec (mid < i) → bytesOrder (keyAt highs lows i) k ≡ Less → ⊥
+      go i le lt (yes q) f = e (text-before (keyAt highs lows mid) (keyAt highs lows i) k (s .rising mid i q lt) f)
+      go i le lt (no q) f = let is : i ≡ mid = omega arith in e (subst (λ (j : ℕ). bytesOrder (keyAt highs lows j) k ≡ Less) is f)
+
+  -- The test of the row in the middle moves the low end or the high one.
+  pub tested-before : {r : Bool} → r ≡ isLess (bytesOrder (keyAt highs lows mid) k) → r ≡ true → Halving highs lows n k (mid + 1) high
+  tested-before e t = halving-up (is-less-says _ (sym e ∙ t))
+
+  pub tested-behind : {r : Bool} → r ≡ isLess (bytesOrder (keyAt highs lows mid) k) → r ≡ false → Halving highs lows n k low mid
+  tested-behind e f = halving-down (λ q. clash (e ∙ ap isLess q) f)
+
+pub halving-ends : {highs lows : List ℕ} {n : ℕ} {k : List ℕ} {low high : ℕ} → Halving highs lows n k low high → high ≤ low → PlaceIs highs lows n k low
+halving-ends h le =
+    let up = h .apart in
+    let top = h .inside in
+    record { inside = omega arith; below = h .below; rest = λ i ge lt. h .rest i (omega arith) lt }
+
+-- Halving by the two halves of a series' key ends at its place.
+pub place-found : {highs lows : List ℕ} {n : ℕ} {k : Halves} {low high : ℕ} (s : Series) → k ≡ halvesOf s → Halving highs lows n (k .high ∷ k .low ∷ []) low high → high ≤ low → PlaceIs highs lows n (halves s) low
+place-found {highs} {lows} {n} {k} {low} s e h le = subst (λ (k : Halves). PlaceIs highs lows n (k .high ∷ k .low ∷ []) low) e (halving-ends h le)
+
+-- The keys of rows, row by row. Here and below d is what a row behind the end would be, which is never read.
+pub record Keyed (d : Holding) (rows : List Holding) (n : ℕ) (highs lows : List ℕ) : Type 0 where
+  pub highs-long : n ≤ length highs
+  pub lows-long : n ≤ length lows
+  pub highs-are : (i : ℕ) → i < n → getD highs i 0 ≡ highKey (getD rows i d .series)
+  pub lows-are : (i : ℕ) → i < n → getD lows i 0 ≡ natureKey (getD rows i d .series .nature)
+
+-- The keys of no row.
+pub keyed-starts : (d : Holding) (rows : List Holding) (highs lows : List ℕ) → Keyed d rows 0 highs lows
+keyed-starts d rows highs lows = record { highs-long = omega arith; lows-long = omega arith; highs-are = λ i lt. absurd (omega arith); lows-are = λ i lt. absurd (omega arith) }
+
+-- Setting the entry i makes a list that says f below i say it below i + 1.
+set-says : (f : ℕ → ℕ) (l : List ℕ) (i x : ℕ) → i < length l → x ≡ f i → ((j : ℕ) → j < i → getD l j 0 ≡ f j) → (j : ℕ) → j < i + 1 → Dec (j < i) → getD (set l i x) j 0 ≡ f j
+set-says f l i x inside e h j lt (yes q) = getD-set-other l i j x 0 (λ (z : j ≡ i). omega arith) ∙ h j q
+set-says f l i x inside e h j lt (no q) = let is : j ≡ i = omega arith in rw (is, getD-set-same l i x 0 inside) e
+
+-- The keys of one row more.
+pub keyed-next : {d : Holding} {rows : List Holding} {i : ℕ} {highs lows : List ℕ} {k : Halves} → Keyed d rows i highs lows → i < length highs → i < length lows → k ≡ halvesOf (getD rows i d .series) → Keyed d rows (i + 1) (set highs i (k .high)) (set lows i (k .low))
+keyed-next {d} {rows} {i} {highs} {lows} {k} keyed h l e =
+    record {
+      highs-long = simp length-set (omega arith);
+      lows-long = simp length-set (omega arith);
+      highs-are = λ j lt. set-says (λ (j : ℕ). highKey (getD rows j d .series)) highs i (k .high) h (ap (λ (z : Halves). z .high) e) (keyed .highs-are) j lt (decLt j i);
+      lows-are = λ j lt. set-says (λ (j : ℕ). natureKey (getD rows j d .series .nature)) lows i (k .low) l (ap (λ (z : Halves). z .low) e) (keyed .lows-are) j lt (decLt j i);
+    }
+
+-- The keys of fewer rows.
+pub keyed-fewer : {d : Holding} {rows : List Holding} {m n : ℕ} {highs lows : List ℕ} → n ≤ m → Keyed d rows m highs lows → Keyed d rows n highs lows
+keyed-fewer le keyed =
+    let h = keyed .highs-long in
+    let l = keyed .lows-long in
+    record { highs-long = omega arith; lows-long = omega arith; highs-are = λ i lt. keyed .highs-are i (omega arith); lows-are = λ i lt. keyed .lows-are i (omega arith) }
+
+-- Rows in order of good series have keys in order, and the order of keys is that of ranks.
+module _ {d : Holding} {rows : List Holding} {n : ℕ} {highs lows : List ℕ} (keyed : Keyed d rows n highs lows) (good : everyLine goodHolding (take n rows) ≡ true) (room : n ≤ length rows) where
+  good-at : (i : ℕ) → i < n → goodSeries (getD rows i d .series) ≡ true
+  unfolding goodHolding
+  good-at i lt =
+      let inside : i < length (take n rows) = simp length-take (omega arith) in
+      let g = every-at goodHolding (take n rows) i d good inside in
+      both-true (goodSeries (getD rows i d .series)) _ (subst (λ (h : Holding). goodHolding h ≡ true) (getD-take n rows i d lt) g) .0
+
+  pub key-order : (s : Series) (i : ℕ) → goodSeries s ≡ true → i < n → bytesOrder (keyAt highs lows i) (halves s) ≡ bytesOrder (holdingRank (getD rows i d)) (seriesRank s)
+  unfolding holdingRank
+  key-order s i g lt =
+      rw (keyed .highs-are i lt, keyed .lows-are i lt) (halves-order (getD rows i d .series) s (good-at i lt) g ∙ sym (rank-order (getD rows i d .series) s))
+
+  rises : ascending holdingRank (take n rows) ≡ true → (i j : ℕ) → i < j → j < n → bytesOrder (keyAt highs lows i) (keyAt highs lows j) ≡ Less
+  unfolding holdingRank
+  rises a i j lt le =
+      let inside : j < length (take n rows) = simp length-take (omega arith) in
+      let before = before-at holdingRank (take n rows) i j d a lt inside in
+      let e : bytesOrder (holdingRank (getD rows i d)) (holdingRank (getD rows j d)) ≡ Less = rw (getD-take n rows i d (omega arith), getD-take n rows j d le) at before in
+      let k = key-order (getD rows j d .series) i (good-at j le) (omega arith) in
+      rw (keyed .highs-are j le, keyed .lows-are j le) (k ∙ e)
+
+  pub rising-keys : ascending holdingRank (take n rows) ≡ true → Rising highs lows n
+  rising-keys a = record { highs-long = keyed .highs-long; lows-long = keyed .lows-long; rising = rises a }
+
+rank-same : (h : Holding) (s : Series) → holdingRank h ≡ seriesRank s → sameSeries (h .series) s ≡ true
+unfolding sameSeries holdingRank
+rank-same h s e = rw e (same-self (seriesRank s))
+
+-- The walk has come to the legs ls; `free` are the rows with what the legs before left. Whether all legs find their lots is w, and
+-- what they leave is v.
+pub record Walking (d : Holding) (rows : List Holding) (n : ℕ) (w : Bool) (v : List Holding) (ls : List Leg) (free : List Holding) : Type 0 where
+  pub long : length free ≡ 128
+  pub goes : covers (take n free) ls ≡ w
+  pub ends : afterLegs (take n free) ls ≡ v
+  pub order : ascending holdingRank (take n free) ≡ true
+  pub ranks : (i : ℕ) → i < n → holdingRank (getD free i d) ≡ holdingRank (getD rows i d)
+  pub behind : drop n free ≡ drop n rows
+
+pub walking-starts : (d : Holding) (rows : List Holding) (n : ℕ) (ls : List Leg) → length rows ≡ 128 → ascending holdingRank (take n rows) ≡ true → Walking d rows n (covers (take n rows) ls) (afterLegs (take n rows) ls) ls rows
+walking-starts d rows n ls long a = record { long = long; goes = refl; ends = refl; order = a; ranks = λ i lt. refl; behind = refl }
+
+module _ {d : Holding} {rows : List Holding} {n : ℕ} {w : Bool} {v : List Holding} {leg : Leg} {ls : List Leg} {free : List Holding} (few : n ≤ 128) (walk : Walking d rows n w v (leg ∷ ls) free) where
+  -- A leg whose series is not held, or whose row has too little, ends it.
+  too-little : {m : ℕ} → total (take n free) (leg .series) (leg .side) ≡ m → m < leg .lots → false ≡ w
+  unfolding covers
+  too-little e lt = rw (e, lt-leb _ _ lt) at (walk .goes)
+
+  pub leg-absent : 1 ≤ leg .lots → stands holdingRank (seriesRank (leg .series)) (take n free) ≡ false → false ≡ w
+  unfolding total holdingIn
+  leg-absent some e =
+      too-little (ap (lotsOn (leg .side)) (look-none holdingRank (newHolding (leg .series)) (seriesRank (leg .series)) (take n free) e) ∙ new-lots (leg .side) (leg .series)) some
+
+  module _ (i : ℕ) (lt : i < n) (is : sameSeries (getD free i d .series) (leg .series) ≡ true) where
+    inside : i < length (take n free)
+    inside = let l = walk .long in simp length-take (omega arith)
+
+    rank-is : holdingRank (getD (take n free) i d) ≡ seriesRank (leg .series)
+    unfolding sameSeries holdingRank
+    rank-is = rw (getD-take n free i d lt) (are-same (seriesRank (getD free i d .series)) (seriesRank (leg .series)) is)
+
+    row-total : total (take n free) (leg .series) (leg .side) ≡ lotsOn (leg .side) (getD free i d)
+    unfolding total holdingIn
+    row-total =
+        ap (lotsOn (leg .side)) (look-at holdingRank (seriesRank (leg .series)) (newHolding (leg .series)) (take n free) i d (walk .order) inside rank-is ∙ getD-take n free i d lt)
+
+    pub leg-short : lotsOn (leg .side) (getD free i d) < leg .lots → false ≡ w
+    leg-short less = too-little row-total less
+
+    -- A leg that finds its lots in the row i takes them there.
+    taken-there : takes leg (take n free) ≡ take n (set free i (lessened (leg .side) (leg .lots) (getD free i d)))
+    unfolding takes takenFrom sameSeries holdingRank
+    taken-there =
+        map-at holdingRank (seriesRank (leg .series)) (lessened (leg .side) (leg .lots)) (take n free) i d (walk .order) inside rank-is
+        ∙ rw (getD-take n free i d lt, take-set-lt n free i (lessened (leg .side) (leg .lots) (getD free i d)) lt)
+
+    rank-stays : (j : ℕ) → Dec (j < i) → Dec (i < j) → holdingRank (getD (set free i (lessened (leg .side) (leg .lots) (getD free i d))) j d) ≡ holdingRank (getD free j d)
+    rank-stays j (yes q) r = ap holdingRank (getD-set-other free i j _ d (λ e. omega arith))
+    rank-stays j (no q) (yes r) = ap holdingRank (getD-set-other free i j _ d (λ e. omega arith))
+    rank-stays j (no q) (no r) =
+        let same : j ≡ i = omega arith in
+        let l = walk .long in
+        rw (same, getD-set-same free i (lessened (leg .side) (leg .lots) (getD free i d)) d (omega arith)) (lessened-rank (leg .side) (leg .lots) (getD free i d))
+
+    pub leg-taken : leg .lots ≤ lotsOn (leg .side) (getD free i d) → Walking d rows n w v ls (set free i (lessened (leg .side) (leg .lots) (getD free i d)))
+    unfolding covers afterLegs takes
+    leg-taken le =
+        record {
+          long = simp length-set (walk .long);
+          goes = rw (← taken-there) (rw (row-total, le-leb _ _ le) at (walk .goes));
+          ends = rw (← taken-there) (walk .ends);
+          order = rw (← taken-there) (mapped-ascends holdingRank (takenFrom leg) (taken-rank leg) (take n free) ∙ walk .order);
+          ranks = λ j q. rank-stays j (decLt j i) (decLt i j) ∙ walk .ranks j q;
+          behind = drop-set-lt n free i (lessened (leg .side) (leg .lots) (getD free i d)) lt ∙ walk .behind;
+        }
+
+  -- The place that halving finds is the leg's row, or it has none.
+  pub leg-nowhere : {highs lows : List ℕ} {r : ℕ} → Keyed d rows n highs lows → everyLine goodHolding (take n rows) ≡ true → n ≤ length rows → goodSeries (leg .series) ≡ true → PlaceIs highs lows n (halves (leg .series)) r → (r < n → sameSeries (getD free r d .series) (leg .series) ≡ false) → stands holdingRank (seriesRank (leg .series)) (take n free) ≡ false
+  leg-nowhere {highs} {lows} {r} keyed good room g place other =
+      let long = walk .long in
+      let size : length (take n free) ≡ n = simp length-take (omega arith) in
+      let low = place .inside in
+      absent-between holdingRank (seriesRank (leg .series)) (take n free) r d (walk .order) (omega arith)
+      (λ i lt. moved i (omega arith) ∙ sym (key-order keyed good room (leg .series) i g (omega arith)) ∙ place .below i lt)
+      (λ lt. beyond (omega arith))
+    where
+      moved : (i : ℕ) → i < n → bytesOrder (holdingRank (getD (take n free) i d)) (seriesRank (leg .series)) ≡ bytesOrder (holdingRank (getD rows i d)) (seriesRank (leg .series))
+      moved i lt = rw (getD-take n free i d lt, walk .ranks i lt)
+
+      beyond : r < n → bytesOrder (seriesRank (leg .series)) (holdingRank (getD (take n free) r d)) ≡ Less
+      beyond lt =
+          rw (getD-take n free r d lt)
+          (split-text (λ (o : Order). bytesOrder (holdingRank (getD free r d)) (seriesRank (leg .series)) ≡ o → bytesOrder (seriesRank (leg .series)) (holdingRank (getD free r d)) ≡ Less) (holdingRank (getD free r d)) (seriesRank (leg .series))
+          (λ less e. absurd (place .rest r (omega arith) lt (key-order keyed good room (leg .series) r g lt ∙ rw (sym (walk .ranks r lt)) less)))
+          (λ same e. absurd (clash (rank-same (getD free r d) (leg .series) same) (other lt)))
+          (λ more e. more)
+          refl)
+
+-- What is known of the rows and pairs of a book before the walk.
+pub record Walkable (rows : List Holding) (held : ℕ) (pairs : List Pair) (paired : ℕ) : Type 0 where
+  pub holdings-sound : SoundRows emptyHolding goodHolding holdingRank held rows
+  pub pairs-sound : SoundRows emptyPair goodPair pairRank paired pairs
+
+-- a row and a leg: whether it is the leg's row and has its lots, and what is left of it then
+abbrev pub takenLots : Holding → Series → Side → ℕ → Taken
+takenLots h s d n = record { enough = both (sameSeries (h .series) s) (leb n (lotsOn d h)); row = lessened d n h }
+
+-- The end of the walk: every leg has found its lots, and the rows are those with the free lots, then empty ones.
+pub walking-ends : {d : Holding} {rows : List Holding} {n : ℕ} {w : Bool} {v : List Holding} {free : List Holding} → SoundRows emptyHolding goodHolding holdingRank n rows → Walking d rows n w v [] free → (true ≡ w) × (free ≡ full 128 emptyHolding v)
+unfolding covers afterLegs full
+walking-ends {d} {rows} {n} {w} {v} {free} r walk =
+    let few = r .few in
+    let long = walk .long in
+    let size : length (take n free) ≡ n = simp length-take (omega arith) in
+    let count : 128 - length (take n rows) ≡ 128 - length v = let k = r .counted in let m = ap length (walk .ends) in omega arith in
+    let behind : drop n rows ≡ replicate (128 - length (take n rows)) emptyHolding
+    = ap (drop n) (r .filled) ∙ ap (λ (k : ℕ). drop k (full 128 emptyHolding (take n rows))) (sym (r .counted)) ∙ drop-full 128 emptyHolding (take n rows) in
+    (walk .goes, sym (take-append-drop n free) ∙ (λ i. walk .ends i ++ (walk .behind ∙ behind ∙ ap (λ (k : ℕ). replicate k emptyHolding) count) i))
+
+-- The answer where a leg does not find its lots.
+pub uncovered : (hs : List Holding) (ps : List Pair) → false ≡ covers hs (legsOf ps) → notSound ≡ checkedAs (covered hs ps) hs ps
+unfolding checkedAs
+uncovered hs ps e = ap (λ (t : Bool). checkedAs t hs ps) (e ∙ covers-is hs ps)
+
+-- The answer where every leg has found its lots.
+pub all-covered-as : (hs : List Holding) (ps : List Pair) {free : List Holding} → (true ≡ covers hs (legsOf ps)) × (free ≡ full 128 emptyHolding (afterLegs hs (legsOf ps))) → record { sound = true; free = free } ≡ checkedAs (covered hs ps) hs ps
+unfolding checkedAs
+all-covered-as hs ps e = rw (e .1, after-is hs ps) (ap (λ (t : Bool). checkedAs t hs ps) (e .0 ∙ covers-is hs ps))
+
+-- what a pair behind the end would be
+abbrev pub noPair : Pair
+noPair = record { kind = 0; first = noRow .series; second = noRow .series; r1 = 0; r2 = 0; units = 0 }
+
+-- Sound rows fill their array.
+rows-long : {A : Type 0} {empty : A} {good : A → Bool} {rank : A → List ℕ} {n : ℕ} {rows : List A} → SoundRows empty good rank n rows → length rows ≡ 128
+rows-long {A} {empty} {good} {rank} {n} {rows} r =
+    let few = r .few in
+    let counted = r .counted in
+    ap length (r .filled) ∙ length-full 128 empty (take n rows) (omega arith)
+
+-- The walk over the legs of a book's pairs, with the keys of its rows: it has come to the legs ls.
+pub record Going (rows : List Holding) (held : ℕ) (pairs : List Pair) (paired : ℕ) (highs lows : List ℕ) (ls : List Leg) (free : List Holding) : Type 0 where
+  pub ready : Walkable rows held pairs paired
+  pub keyed : Keyed noRow rows held highs lows
+  pub walk : Walking noRow rows held (covers (take held rows) (legsOf (take paired pairs))) (afterLegs (take held rows) (legsOf (take paired pairs))) ls free
+
+-- The walk starts with all rows and at the first pair.
+pub going-starts : {rows : List Holding} {held : ℕ} {pairs : List Pair} {paired : ℕ} {highs lows : List ℕ} → Walkable rows held pairs paired → Keyed noRow rows 128 highs lows → Going rows held pairs paired highs lows (legsOf (drop 0 (take paired pairs))) rows
+going-starts ready keyed =
+    record { ready = ready; keyed = keyed-fewer (ready .holdings-sound .few) keyed; walk = walking-starts noRow _ _ _ (rows-long (ready .holdings-sound)) (ready .holdings-sound .in-order) }
+
+-- the answer of the walk is that of a book that breaks a rule
+abbrev pub Refused : List Holding → ℕ → List Pair → ℕ → Type 0
+Refused rows held pairs paired = notSound ≡ checkedAs (covered (take held rows) (take paired pairs)) (take held rows) (take paired pairs)
+
+module _ {rows : List Holding} {held : ℕ} {pairs : List Pair} {paired : ℕ} {highs lows : List ℕ} where
+  -- The keys of the rows rise.
+  pub going-rising : {ls : List Leg} {free : List Holding} → Going rows held pairs paired highs lows ls free → Rising highs lows held
+  going-rising g =
+      let r = g .ready .holdings-sound in
+      let long = rows-long r in
+      let few = r .few in
+      rising-keys (g .keyed) (r .all-good) (omega arith) (r .in-order)
+
+  -- A live row is one of 128, and so is a live pair.
+  pub few-rows : {ls : List Leg} {free : List Holding} {r : ℕ} → Going rows held pairs paired highs lows ls free → r < held → r < 128
+  few-rows g lt = let few = g .ready .holdings-sound .few in omega arith
+
+  pub few-pairs : {ls : List Leg} {free : List Holding} {j : ℕ} → Going rows held pairs paired highs lows ls free → j < paired → j < 128
+  few-pairs g lt = let few = g .ready .pairs-sound .few in omega arith
+
+  -- A leg whose place is behind the rows or is another's row ends the walk; so does one whose row has too little; else it takes its lots.
+  module _ {leg : Leg} {ls : List Leg} {free : List Holding} {r : ℕ} (g : Going rows held pairs paired highs lows (leg ∷ ls) free) (good : goodSeries (leg .series) ≡ true) (some : 1 ≤ leg .lots) (place : PlaceIs highs lows held (halves (leg .series)) r) where
+    other-row : (r < held → sameSeries (getD free r noRow .series) (leg .series) ≡ false) → false ≡ covers (take held rows) (legsOf (take paired pairs))
+    other-row other =
+        let h = g .ready .holdings-sound in
+        let few = h .few in
+        let long = rows-long h in
+        leg-absent few (g .walk) some (leg-nowhere few (g .walk) (g .keyed) (h .all-good) (omega arith) good place other)
+
+    leg-behind : held ≤ r → Refused rows held pairs paired
+    leg-behind le = uncovered (take held rows) (take paired pairs) (other-row (λ lt. absurd (omega arith)))
+
+    module _ {t : Taken} (lt : r < held) (is : t ≡ takenLots (getD free r noRow) (leg .series) (leg .side) (leg .lots)) where
+      leg-lacks : not (t .enough) ≡ true → Refused rows held pairs paired
+      leg-lacks e =
+          uncovered (take held rows) (take paired pairs)
+          (by-test (λ (x : Bool). sameSeries (getD free r noRow .series) (leg .series) ≡ x → both x (leb (leg .lots) (lotsOn (leg .side) (getD free r noRow))) ≡ false → false ≡ covers (take held rows) (legsOf (take paired pairs))) (sameSeries (getD free r noRow .series) (leg .series))
+          (λ q same few. leg-short (g .ready .holdings-sound .few) (g .walk) r lt same (leb-false (leg .lots) _ few))
+          (λ q other few. other-row (λ z. other))
+          refl
+          (failed (ap (λ (z : Taken). z .enough) is) e))
+
+      leg-takes : not (t .enough) ≡ false → Going rows held pairs paired highs lows ls (set free r (t .row))
+      leg-takes e =
+          let h = both-true (sameSeries (getD free r noRow .series) (leg .series)) _ (passed (ap (λ (z : Taken). z .enough) is) e) in
+          record {
+            ready = g .ready;
+            keyed = g .keyed;
+            walk = rw (ap (λ (z : Taken). z .row) is) (leg-taken (g .ready .holdings-sound .few) (g .walk) r lt (h .0) (leb-true (leg .lots) _ (h .1)));
+          }
+
+  -- The walk is at the pair j.
+  module _ {j : ℕ} {free : List Holding} (g : Going rows held pairs paired highs lows (legsOf (drop j (take paired pairs))) free) (lt : j < paired) where
+    inside-pairs : j < length (take paired pairs)
+    inside-pairs = let counted = g .ready .pairs-sound .counted in omega arith
+
+    -- The pair j is good, so its counts fit.
+    pair-good : GoodPair (getD pairs j noPair)
+    pair-good =
+        pair-is (getD pairs j noPair) (subst (λ (p : Pair). goodPair p ≡ true) (getD-take paired pairs j noPair lt) (every-at goodPair (take paired pairs) j noPair (g .ready .pairs-sound .all-good) inside-pairs))
+
+    pub pair-counts : Counts (getD pairs j noPair .r1) (getD pairs j noPair .r2) (getD pairs j noPair .units)
+    pair-counts = counts-are _ _ _ (pair-good .counts)
+
+    -- The legs from there on are its first, its second and those of the pairs behind it.
+    pair-legs : legsOf (drop j (take paired pairs)) ≡ firstLeg (getD pairs j noPair) ∷ secondLeg (getD pairs j noPair) ∷ legsOf (drop (j + 1) (take paired pairs))
+    unfolding legsOf
+    pair-legs = rw (drop-cons (take paired pairs) j noPair inside-pairs, getD-take paired pairs j noPair lt, add-one j)
+
+    at-first : Going rows held pairs paired highs lows (firstLeg (getD pairs j noPair) ∷ secondLeg (getD pairs j noPair) ∷ legsOf (drop (j + 1) (take paired pairs))) free
+    at-first = subst (λ (ls : List Leg). Going rows held pairs paired highs lows ls free) pair-legs g
+
+    -- What the first leg finds: no row, too little, or its lots.
+    module _ {x : ℕ} (place : PlaceIs highs lows held (halves (getD pairs j noPair .first)) x) where
+      pub first-behind : held ≤ x → Refused rows held pairs paired
+      unfolding firstLeg
+      first-behind le = leg-behind at-first (pair-good .first-good) (pair-counts .some-lots1) place le
+
+      module _ {side : Side} {s : Taken} (at : x < held) (side-is : side ≡ firstSide (getD pairs j noPair .kind) (getD pairs j noPair .second)) (is : s ≡ takenLots (getD free x noRow) (getD pairs j noPair .first) side (getD pairs j noPair .r1 * getD pairs j noPair .units)) where
+        pub first-lacks : not (s .enough) ≡ true → Refused rows held pairs paired
+        unfolding firstLeg
+        first-lacks e = leg-lacks at-first (pair-good .first-good) (pair-counts .some-lots1) place at (rw side-is at is) e
+
+        -- and when it has its lots, what the second finds
+        module _ (has : not (s .enough) ≡ false) where
+          at-second : Going rows held pairs paired highs lows (secondLeg (getD pairs j noPair) ∷ legsOf (drop (j + 1) (take paired pairs))) (set free x (s .row))
+          unfolding firstLeg
+          at-second = leg-takes at-first (pair-good .first-good) (pair-counts .some-lots1) place at (rw side-is at is) has
+
+          module _ {y : ℕ} (place2 : PlaceIs highs lows held (halves (getD pairs j noPair .second)) y) where
+            pub second-behind : held ≤ y → Refused rows held pairs paired
+            unfolding secondLeg
+            second-behind le = leg-behind at-second (pair-good .second-good) (pair-counts .some-lots2) place2 le
+
+            module _ {side2 : Side} {t : Taken} (at2 : y < held) (side2-is : side2 ≡ secondSide (getD pairs j noPair .kind)) (is2 : t ≡ takenLots (getD (set free x (s .row)) y noRow) (getD pairs j noPair .second) side2 (getD pairs j noPair .r2 * getD pairs j noPair .units)) where
+              pub second-lacks : not (t .enough) ≡ true → Refused rows held pairs paired
+              unfolding secondLeg
+              second-lacks e = leg-lacks at-second (pair-good .second-good) (pair-counts .some-lots2) place2 at2 (rw side2-is at is2) e
+
+              pub pair-takes : not (t .enough) ≡ false → Going rows held pairs paired highs lows (legsOf (drop (j + 1) (take paired pairs))) (set (set free x (s .row)) y (t .row))
+              unfolding secondLeg
+              pair-takes e = leg-takes at-second (pair-good .second-good) (pair-counts .some-lots2) place2 at2 (rw side2-is at is2) e
+
+  -- Behind the last pair every leg has found its lots.
+  pub going-ends : {j : ℕ} {free : List Holding} → Going rows held pairs paired highs lows (legsOf (drop j (take paired pairs))) free → paired ≤ j → record { sound = true; free = free } ≡ checkedAs (covered (take held rows) (take paired pairs)) (take held rows) (take paired pairs)
+  unfolding legsOf
+  going-ends {j} {free} g le =
+      let counted = g .ready .pairs-sound .counted in
+      let behind : length (take paired pairs) ≤ j = omega arith in
+      let none : drop j (take paired pairs) ≡ [] = drop-of-length-le (take paired pairs) behind in
+      all-covered-as (take held rows) (take paired pairs) (walking-ends (g .ready .holdings-sound) (subst (λ (ps : List Pair). Going rows held pairs paired highs lows (legsOf ps) free) none g .walk))
+
+-- The tests of a book, in the order of the calls: its head, its holdings, its pairs and its tied lots.
+module _ (b : Book) where
+  abbrev pub headTest : Bool
+  headTest = both (accountFits (b .account)) (both (isIdentity (b .identity)) (isDay (b .day)))
+
+  -- The rules of the head are one test, and the end of the rules is none.
+  grouped : (x y z h p c : Bool) → both x (both y (both z (both h (both p (both c true))))) ≡ both (both x (both y z)) (both h (both p c))
+  grouped false y z h p c = refl
+  grouped true false z h p c = refl
+  grouped true true false h p c = refl
+  grouped true true true h p c = ap (λ (t : Bool). both h (both p t)) (both-end c)
+
+  book-test : soundBook b ≡ both headTest (both (holdingsSound (b .held) (b .holdings)) (both (pairsSound (b .paired) (b .pairs)) (covered (holdingsOf b) (pairsOf b))))
+  unfolding soundBook bookRules allPass
+  book-test = grouped (accountFits (b .account)) (isIdentity (b .identity)) (isDay (b .day)) (holdingsSound (b .held) (b .holdings)) (pairsSound (b .paired) (b .pairs)) (covered (holdingsOf b) (pairsOf b))
+
+  -- A book that breaks a rule has the answer of no rows; which rule it is, the tests before it tell.
+  book-broken : soundBook b ≡ false → notSound ≡ checkedBook b
+  unfolding checkedBook checkedAs
+  book-broken e = ap (λ (t : Bool). checkedAs t (holdingsOf b) (pairsOf b)) (sym e)
+
+  pub head-broken : headTest ≡ false → notSound ≡ checkedBook b
+  head-broken e = book-broken (book-test ∙ rw e)
+
+  module _ (head : headTest ≡ true) where
+    pub holdings-broken : holdingsSound (b .held) (b .holdings) ≡ false → notSound ≡ checkedBook b
+    holdings-broken e = book-broken (book-test ∙ rw (head, e))
+
+    module _ (holdings : holdingsSound (b .held) (b .holdings) ≡ true) where
+      pub pairs-broken : pairsSound (b .paired) (b .pairs) ≡ false → notSound ≡ checkedBook b
+      pairs-broken e = book-broken (book-test ∙ rw (head, holdings, e))
+
+      -- Where head, holdings and pairs are sound, the lots decide.
+      pub lots-decide : {c : Checked} → pairsSound (b .paired) (b .pairs) ≡ true → c ≡ checkedAs (covered (take (b .held) (b .holdings)) (take (b .paired) (b .pairs))) (take (b .held) (b .holdings)) (take (b .paired) (b .pairs)) → c ≡ checkedBook b
+      unfolding checkedBook holdingsOf pairsOf
+      lots-decide e is = is ∙ ap (λ (t : Bool). checkedAs t (holdingsOf b) (pairsOf b)) (sym (book-test ∙ rw (head, holdings, e)))
+
+-- What the tests of holdings and pairs give the walk.
+pub walkable : {rows : List Holding} {held : ℕ} {pairs : List Pair} {paired : ℕ} → holdingsSound held rows ≡ true → pairsSound paired pairs ≡ true → Walkable rows held pairs paired
+walkable h p = record { holdings-sound = holdings-are _ _ h; pairs-sound = pairs-are _ _ p }
+
+-- The answer says whether the book is sound.
+pub answer-says : (b : Book) {c : Checked} → c ≡ checkedBook b → c .sound ≡ soundBook b
+unfolding checkedBook checkedAs notSound
+answer-says b e = ap (λ (c : Checked). c .sound) e ∙ by-test (λ (t : Bool). checkedAs t (holdingsOf b) (pairsOf b) .sound ≡ t) (soundBook b) (λ q. refl) (λ q. refl)
