@@ -13,9 +13,21 @@
 //                                a unit of a pair of an index; the clearing margin is that of its full-size future
 //   J kind r1 r2 charged SLINE LOT LOT
 //                                a unit of a pair of a stock
+//   B account code day           make a book; the calls below are made on the book that the one before left
+//   + SERIES side lots           open; the side is L or S
+//   - SERIES side lots           close
+//   P kind SERIES SERIES r1 r2 units
+//                                pair
+//   X kind SERIES SERIES r1 r2 units
+//                                split
+//   T day                        turn
+//   K                            keep a copy of the book aside
+//   Z                            bring the copy back
+//   W way                        spoil the book, in one of fifteen ways
 // OLINE and SLINE are a sheet's line without letter and code. LOT is a nature (0 future, 1 call, 2 put), a strike (of an index
 // future: its part) and a price. Printed are of each lot the number, the three margins and the premium value; the terms' number,
-// the tenth and the three C; the unit's number and its three margins.
+// the tenth and the three C; the unit's number and its three margins. Printed of a book are the call's number (of K, Z and W: 16 or
+// 0), account, client code, day, the counts of holdings and pairs, and a digest of all that it holds, unused room included.
 // Any other line is printed as it stands.
 ghost use Prim.Native.Nat.{_≤_};
 ghost use lib.ListN.{length};
@@ -23,11 +35,15 @@ use amounts::IndexLine;
 use amounts::Lot;
 use amounts::StockLine;
 use amounts::Terms;
+use calls::Outcome;
 use codes::Class;
 use laws::Order;
 use levels::Answer;
 use levels::Levels;
 use pairing::Parts;
+use rows::Book;
+use rows::Holding;
+use rows::Pair;
 use series::Nature;
 use series::Series;
 use series::Side;
@@ -49,6 +65,12 @@ struct Unit {
     first: Lot,
     second: Lot,
     terms: Terms,
+}
+
+// The book that calls are made on, and the copy kept aside.
+struct Desk {
+    book: Book,
+    kept: Book,
 }
 
 // The field from `at` on, up to a tab: its first three letters, with zeros behind them, and the number that its digits are.
@@ -388,21 +410,274 @@ fn answer_amounts(letter: u8, line: &[u8]) {
     put_figures(figures(letter, numbers(line)), figure_count(letter));
 }
 
-fn answer(line: &[u8]) {
-    put(line);
-    if 0 < line.len() {
-        let letter = line[0];
-        match letter {
-            b'D' => answer_date(line),
-            b'C' => answer_code(line),
-            b'S' => answer_series(line),
-            b'O' => answer_order(line),
-            b'M' => answer_pair(line),
-            b'F' | b'R' | b'I' | b'J' => answer_amounts(letter, line),
-            _ => {}
+fn side_of(letter: u8) -> Side {
+    match letter {
+        b'L' => Side::Long,
+        _ => Side::Short,
+    }
+}
+
+fn call_make(line: &[u8]) -> Outcome {
+    let account = field_at(line, 2);
+    let code = field_at(line, account.next);
+    let day = field_at(line, code.next);
+    let letters = code.letters;
+    moves::make(account.value, letters[0], day.value)
+}
+
+fn call_lots(opens: bool, line: &[u8], b: Book) -> Outcome {
+    let f = series_at(line, 2);
+    let side = field_at(line, f.next);
+    let lots = field_at(line, side.next);
+    let letters = side.letters;
+    let s = f.series;
+    if opens {
+        return moves::open(b, s, side_of(letters[0]), lots.value);
+    }
+    moves::close(b, s, side_of(letters[0]), lots.value)
+}
+
+fn pair_at(line: &[u8]) -> Pair {
+    let kind = field_at(line, 2);
+    let f = series_at(line, kind.next);
+    let g = series_at(line, f.next);
+    let r1 = field_at(line, g.next);
+    let r2 = field_at(line, r1.next);
+    let units = field_at(line, r2.next);
+    let first = f.series;
+    let second = g.series;
+    Pair {
+        kind: kind.value,
+        first,
+        second,
+        r1: r1.value,
+        r2: r2.value,
+        units: units.value,
+    }
+}
+
+fn call_turn(line: &[u8], b: Book) -> Outcome {
+    let day = field_at(line, 2);
+    moves::turn(b, day.value)
+}
+
+fn call(letter: u8, line: &[u8], b: Book) -> Outcome {
+    match letter {
+        b'B' => call_make(line),
+        b'+' => call_lots(true, line, b),
+        b'-' => call_lots(false, line, b),
+        b'P' => ties::pair(b, pair_at(line)),
+        b'X' => ties::split(b, pair_at(line)),
+        _ => call_turn(line, b),
+    }
+}
+
+// The ways to spoil a book: its head and its counts,
+fn spoil_head(way: u32, b: Book) -> Book {
+    let mut c = b;
+    match way {
+        1 => c.account = 10000000,
+        2 => c.identity = b'a',
+        3 => c.day = 20230229,
+        4 => c.held = b.held % 1000 + 1,
+        5 => c.paired = b.paired % 1000 + 1,
+        12 => c.held = 129,
+        _ => {}
+    }
+    c
+}
+
+// its holdings,
+fn spoil_holdings(way: u32, rows: [Holding; 128]) -> [Holding; 128] {
+    let mut spoilt = rows;
+    let first = rows[0];
+    let second = rows[1];
+    match way {
+        6 => {
+            spoilt[0] = second;
+            spoilt[1] = first;
+        }
+        7 => {
+            spoilt[0].long = 0;
+            spoilt[0].short = 0;
+        }
+        8 => spoilt[0].long = 100001,
+        10 => spoilt[127].long = 1,
+        14 => {
+            spoilt[0].long = 1;
+            spoilt[0].short = 0;
+        }
+        _ => {}
+    }
+    spoilt
+}
+
+// its pairs.
+fn spoil_pairs(way: u32, rows: [Pair; 128]) -> [Pair; 128] {
+    let mut spoilt = rows;
+    let first = rows[0];
+    let second = rows[1];
+    match way {
+        9 => spoilt[0].units = 100001,
+        11 => spoilt[127].units = 1,
+        13 => {
+            spoilt[0] = second;
+            spoilt[1] = first;
+        }
+        15 => spoilt[0].kind = 9,
+        _ => {}
+    }
+    spoilt
+}
+
+fn spoil(way: u32, b: Book) -> Book {
+    let mut c = spoil_head(way, b);
+    let held = b.holdings;
+    let paired = b.pairs;
+    let holdings = spoil_holdings(way, held);
+    let pairs = spoil_pairs(way, paired);
+    c.holdings = holdings;
+    c.pairs = pairs;
+    c
+}
+
+fn digest_number(d: u64, x: u32) -> u64 {
+    (d % 4294967296 * 31 + x as u64) % 4294967291
+}
+
+fn digest_nature(d: u64, nature: Nature) -> u64 {
+    match nature {
+        Nature::Future => digest_number(digest_number(d, 70), 0),
+        Nature::Call(strike) => digest_number(digest_number(d, 67), strike),
+        Nature::Put(strike) => digest_number(digest_number(d, 80), strike),
+    }
+}
+
+fn digest_series(d: u64, s: Series) -> u64 {
+    let code = s.code;
+    let nature = s.nature;
+    let first = digest_number(d, code[0] as u32);
+    let second = digest_number(first, code[1] as u32);
+    let third = digest_number(second, code[2] as u32);
+    digest_nature(digest_number(third, s.date), nature)
+}
+
+fn digest_holdings(d: u64, rows: [Holding; 128]) -> u64 {
+    let mut n = d;
+    let mut i: usize = 0;
+    while i < 128 {
+        let h = rows[i];
+        let s = h.series;
+        n = digest_number(digest_number(digest_series(n, s), h.long), h.short);
+        i += 1;
+    }
+    n
+}
+
+fn digest_pair(d: u64, p: Pair) -> u64 {
+    let s = p.first;
+    let t = p.second;
+    let legs = digest_series(digest_series(digest_number(d, p.kind), s), t);
+    digest_number(digest_number(digest_number(legs, p.r1), p.r2), p.units)
+}
+
+fn digest_pairs(d: u64, rows: [Pair; 128]) -> u64 {
+    let mut n = d;
+    let mut i: usize = 0;
+    while i < 128 {
+        let p = rows[i];
+        n = digest_pair(n, p);
+        i += 1;
+    }
+    n
+}
+
+fn digest_head(b: Book) -> u64 {
+    let named = digest_number(digest_number(0, b.account), b.identity as u32);
+    let held = digest_number(digest_number(named, b.day), (b.held % 4294967296) as u32);
+    digest_number(held, (b.paired % 4294967296) as u32)
+}
+
+fn put_book(number: u8, b: Book) {
+    let holdings = b.holdings;
+    let pairs = b.pairs;
+    let digest = digest_pairs(digest_holdings(digest_head(b), holdings), pairs);
+    put_number(number);
+    put(b"\t");
+    io::print_decimal(1, b.account as u64);
+    put_number(b.identity);
+    put(b"\t");
+    io::print_decimal(1, b.day as u64);
+    put(b"\t");
+    io::print_decimal(1, b.held as u64);
+    put(b"\t");
+    io::print_decimal(1, b.paired as u64);
+    put(b"\t");
+    io::print_decimal(1, digest);
+}
+
+fn answer_call(letter: u8, line: &[u8], desk: Desk) -> Desk {
+    let b = desk.book;
+    let kept = desk.kept;
+    let o = call(letter, line, b);
+    let book = o.book;
+    put_book(o.number, book);
+    Desk { book, kept }
+}
+
+fn changed(letter: u8, line: &[u8], desk: Desk) -> Desk {
+    let book = desk.book;
+    let kept = desk.kept;
+    let way = field_at(line, 2);
+    match letter {
+        b'K' => Desk { book, kept: book },
+        b'Z' => Desk { book: kept, kept },
+        _ => Desk {
+            book: spoil(way.value, book),
+            kept,
+        },
+    }
+}
+
+fn answer_changed(letter: u8, line: &[u8], desk: Desk) -> Desk {
+    let next = changed(letter, line, desk);
+    let b = next.book;
+    put_book(laws::unless(16, sound::is_sound(b), 0), b);
+    next
+}
+
+fn answer_alone(letter: u8, line: &[u8]) {
+    match letter {
+        b'D' => answer_date(line),
+        b'C' => answer_code(line),
+        b'S' => answer_series(line),
+        b'O' => answer_order(line),
+        b'M' => answer_pair(line),
+        b'F' | b'R' | b'I' | b'J' => answer_amounts(letter, line),
+        _ => {}
+    }
+}
+
+fn answer(letter: u8, line: &[u8], desk: Desk) -> Desk {
+    match letter {
+        b'B' | b'+' | b'-' | b'P' | b'X' | b'T' => answer_call(letter, line, desk),
+        b'K' | b'Z' | b'W' => answer_changed(letter, line, desk),
+        _ => {
+            answer_alone(letter, line);
+            desk
         }
     }
+}
+
+// Prints a line and its answer; gives the desk as it then is.
+fn line_answered(line: &[u8], desk: Desk) -> Desk {
+    put(line);
+    let mut next = desk;
+    if 0 < line.len() {
+        next = answer(line[0], line, desk);
+    }
     put(b"\n");
+    next
 }
 
 // Where the line that begins at `at` ends.
@@ -421,10 +696,15 @@ fn line_end(text: &[u8], at: usize) -> usize
 }
 
 fn answer_all(text: &[u8]) {
+    let empty = rows::empty_book(0, b'0', 20000101);
+    let mut desk = Desk {
+        book: empty,
+        kept: empty,
+    };
     let mut at: usize = 0;
     while at < text.len() {
         let end = line_end(text, at);
-        answer(&text[at..end]);
+        desk = line_answered(&text[at..end], desk);
         at = end + 1;
     }
 }
