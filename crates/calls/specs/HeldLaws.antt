@@ -1,18 +1,15 @@
 -- Laws of open and close on lists: what the totals of every series and side are afterwards, and that good rows stay good.
 use mathlib.Core.Path.{_≡_, refl, ap, sym, _∙_, subst}
 use mathlib.Core.Bool.{Bool, true, false}
-use mathlib.Core.List.{List, [], _∷_}
-use Prim.Native.Nat.{ℕ, _+_, _-_, _<_, _≤_}
+use mathlib.Core.List.{List}
+use Prim.Native.Nat.{ℕ, _+_, _-_, _≤_}
 use native.Mathlib.Omega.{arith}
-use lib.Dec.{eqb, leb}
-use lib.ListN.{length}
+use lib.Dec.{eqb}
 use borrow.Author.Tests.{eqb-true}
-use Rattle.laws.specs.Truth.{pick, both, either}
-use Rattle.laws.specs.TruthLaws.{both-true, clash, by-test, false-unless}
-use Rattle.laws.specs.Bytes.{sameBytes}
-use Rattle.laws.specs.ByteLaws.{are-same}
+use Rattle.laws.specs.Truth.{pick}
+use Rattle.laws.specs.TruthLaws.{both-true, by-test, false-unless}
 use Rattle.laws.specs.Search.{everyLine}
-use Rattle.lists.specs.Sorted.{ascending, stands, look, kept}
+use Rattle.lists.specs.Sorted.{ascending, stands, kept}
 use Rattle.lists.specs.SortedLaws.{look-none, look-every, look-kept, look-other}
 use Rattle.series.specs.declared.Series.{Series}
 use Rattle.series.specs.declared.Side.{Side}

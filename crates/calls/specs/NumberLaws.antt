@@ -1,26 +1,25 @@
 -- Laws of a call's number and of its rows: what is worked out in the code is what the checks say.
-use mathlib.Core.Path.{_≡_, refl, ap, sym, _∙_, subst}
+use mathlib.Core.Path.{_≡_, refl, ap, sym, _∙_}
 use mathlib.Core.Bool.{Bool, true, false, not}
-use mathlib.Core.List.{List, [], _∷_, _++_, map}
-use Prim.Native.Nat.{ℕ, suc, _+_, _-_, _*_, _<_, _≤_}
+use mathlib.Core.List.{List, _++_}
+use Prim.Native.Nat.{ℕ, _+_, _-_, _≤_}
 use native.Mathlib.Omega.{arith}
-use lib.Dec.{eqb, leb, ltb}
+use lib.Dec.{leb, ltb}
 use lib.ListN.{length, take, length-map}
-use borrow.Author.Tests.{eq-eqb, ne-eqb}
+use borrow.Author.Tests.{ne-eqb}
 use Rattle.laws.specs.Truth.{pick, both, either}
-use Rattle.laws.specs.TruthLaws.{both-true, clash, by-test, failed, passed}
+use Rattle.laws.specs.TruthLaws.{by-test, failed, passed}
 use Rattle.laws.specs.Search.{everyLine}
-use Rattle.laws.specs.Checks.{Check, _unless_, firstFailing, allPass, numbered, orElse}
+use Rattle.laws.specs.Checks.{Check, firstFailing, allPass, numbered, orElse}
 use Rattle.laws.specs.CheckLaws.{first-of-two, accepted, none-fails}
 use Rattle.lists.specs.Places.{full}
 use Rattle.lists.specs.PlaceLaws.{take-full}
-use Rattle.lists.specs.Sorted.{ascending, stands, look, kept}
+use Rattle.lists.specs.Sorted.{stands, kept}
 use Rattle.lists.specs.SortedLaws.{look-none, look-every}
 use Rattle.lists.specs.KeptLaws.{Keeping, KeptIs}
 use Rattle.dates.specs.Calendar.{isDay}
 use Rattle.series.specs.declared.Series.{Series}
 use Rattle.series.specs.declared.Side.{Side}
-use Rattle.series.specs.declared.Side.the-variants.{Long, Short}
 use Rattle.series.specs.Checks.{seriesChecks, seriesNumber}
 use Rattle.series.specs.CheckLaws.{series-numbered}
 use Rattle.pairing.specs.Rules.{partsOf, pairChecks, pairNumber}
@@ -30,17 +29,17 @@ use Rattle.rows.specs.declared.Pair.{Pair}
 use Rattle.rows.specs.declared.Book.{Book}
 use Rattle.rows.specs.Rows.{seriesRank, holdingRank, pairRank, newHolding, newOf, noLots, noUnits, lotsOn, added, lessened, withUnits, emptyHolding, emptyPair}
 use Rattle.rows.specs.Book.{holdingsOf, pairsOf, holdingIn, pairIn, withHoldings, withPairs}
-use Rattle.rules.specs.Lots.{Leg, firstLeg, secondLeg, tied, total, free, unitsOf, freeHolding, freeRows}
+use Rattle.rules.specs.Lots.{firstLeg, secondLeg, total, free, unitsOf, freeRows}
 use Rattle.rules.specs.LotLaws.{free-lots}
 use Rattle.rules.specs.Rules.{accountFits, isIdentity, lotsFit, countsFit, goodHolding, goodPair, soundBook}
-use Rattle.rules.specs.RuleLaws.{SoundRows, Sound, sound-is, holdings-good, holdings-count, pairs-good, GoodHolding, holding-is, GoodPair, pair-is, Counts, counts-are}
+use Rattle.rules.specs.RuleLaws.{sound-is, holdings-good, holdings-count, pairs-good, holding-is, pair-is, counts-are}
 use Rattle.sound.specs.declared.Checked.{Checked}
 use Rattle.sound.specs.Checked.{checkedAs, checkedBook, notSound}
 use Rattle.calls.specs.declared.Outcome.{Outcome}
-use Rattle.calls.specs.Calls.{answered, makeChecks, bookChecks, heldOf, openChecks, opened, closeChecks, closed, legFree, pairingChecks, joined, splitChecks, parted, turnChecks}
+use Rattle.calls.specs.Calls.{answered, makeChecks, bookChecks, heldOf, openChecks, closeChecks, legFree, pairingChecks, splitChecks, turnChecks}
 use Rattle.calls.specs.HeldLaws.{held-on, opened-rank, closed-rank, lots-stand}
 use Rattle.calls.specs.PairedLaws.{units-stand}
-use Rattle.calls.specs.CallLaws.{Opens, Closes, Pairs, Splits}
+use Rattle.calls.specs.PassLaws.{Opens, Closes, Pairs, Splits}
 
 abbrev pub outcome : ℕ → Book → Outcome
 outcome n b = record { number = n; book = b }

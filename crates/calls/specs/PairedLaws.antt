@@ -1,22 +1,21 @@
 -- Laws of pair and split on lists: what is tied of every series and side and what units stand afterwards, and that good rows
 -- stay good.
 use mathlib.Core.Path.{_≡_, refl, ap, sym, _∙_, subst}
-use mathlib.Core.Logic.{_⊎_, inl, inr, ⊎-elim}
+use mathlib.Core.Logic.{_⊎_, ⊎-elim}
 use mathlib.Core.Bool.{Bool, true, false}
-use mathlib.Core.List.{List, [], _∷_}
-use Prim.Native.Nat.{ℕ, zero, suc, _+_, _-_, _*_, _<_, _≤_}
+use mathlib.Core.List.{List}
+use Prim.Native.Nat.{ℕ, zero, suc, _+_, _-_, _*_, _≤_}
 use native.Mathlib.Nat.{mul-add, mul-zero, one-mul, mul-le-mul}
 use native.Mathlib.Omega.{arith}
-use lib.Dec.{eqb, leb}
-use lib.ListN.{length, getD}
+use lib.Dec.{eqb}
+use lib.ListN.{getD}
 use borrow.Author.Tests.{eqb-false}
-use Rattle.laws.specs.Truth.{pick, both, either}
-use Rattle.laws.specs.TruthLaws.{both-true, clash, by-test}
-use Rattle.laws.specs.Bytes.{sameBytes}
-use Rattle.laws.specs.ByteLaws.{are-same, same-self}
+use Rattle.laws.specs.Truth.{pick, both}
+use Rattle.laws.specs.TruthLaws.{by-test}
+use Rattle.laws.specs.ByteLaws.{are-same}
 use Rattle.laws.specs.Search.{everyLine}
 use Rattle.laws.specs.OrderLaws.{is-same}
-use Rattle.lists.specs.Sorted.{sumOf, ascending, stands, look, kept}
+use Rattle.lists.specs.Sorted.{ascending, stands, look, kept}
 use Rattle.lists.specs.SortedLaws.{look-none, look-read, look-every, look-kept, look-other, sum-kept}
 use Rattle.series.specs.declared.Series.{Series}
 use Rattle.series.specs.declared.Side.{Side}
@@ -31,9 +30,9 @@ use Rattle.rows.specs.Rows.{seriesRank, pairRank, sameSeries, samePair, newOf, 
 use Rattle.rows.specs.RowLaws.{no-units}
 use Rattle.rows.specs.Book.{pairIn}
 use Rattle.rules.specs.Lots.{Leg, firstLeg, secondLeg, sameSide, ties, tiedBy, tied, total, unitsOf}
-use Rattle.rules.specs.LotLaws.{one-rank, same-to-itself, tied-of-one, total-of-one, ties-of-one, ties-own, ties-itself}
+use Rattle.rules.specs.LotLaws.{one-rank, tied-of-one, total-of-one, ties-of-one, ties-own, ties-itself}
 use Rattle.rules.specs.Rules.{countsFit, goodPair}
-use Rattle.rules.specs.RuleLaws.{Counts, counts-are, counts-back, GoodPair, pair-is, pair-back}
+use Rattle.rules.specs.RuleLaws.{counts-are, counts-back, GoodPair, pair-is, pair-back}
 
 -- Pairs that are one have one rank.
 pub one-pair : (p q : Pair) → samePair p q ≡ true → pairRank p ≡ pairRank q

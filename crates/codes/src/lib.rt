@@ -180,9 +180,10 @@ fn unlisted_code(code: [u8; 3]) -> Product
 pub fn product_of(code: [u8; 3]) -> Product
     ensures { λ r. ⌜ r ≡ productOf code ⌝ }
 {
+    let lines = LISTED;
     let mut i: usize = 0;
     while i < 16 {
-        let p = LISTED[i];
+        let p = lines[i];
         let listed = p.code;
         if same_code(code, listed) {
             return p;

@@ -1,6 +1,6 @@
 -- Laws of a row kept in an array of 128 rows, over any type of row: set where it stands, put in where it is new, taken out where
 -- nothing is left of it.
-use mathlib.Core.Path.{_≡_, refl, ap, sym, _∙_}
+use mathlib.Core.Path.{_≡_, ap, sym, _∙_}
 use mathlib.Core.Bool.{Bool, true, false}
 use mathlib.Core.List.{List, [], _∷_, _++_}
 use Prim.Native.Nat.{ℕ, _+_, _-_, _<_, _≤_}
@@ -9,11 +9,11 @@ use lib.Dec.{ltb}
 use lib.ListN.{length, take, set, length-set}
 use lib.Seq.{take-all}
 use borrow.Author.Tests.{ltb-true}
-use Rattle.laws.specs.Truth.{pick, either}
+use Rattle.laws.specs.Truth.{either}
 use Rattle.lists.specs.declared.Slot.the-variants.{At, Before}
 use Rattle.lists.specs.Places.{insertAt, removeAt, full}
 use Rattle.lists.specs.PlaceLaws.{length-insert, length-remove, length-full, insert-full, remove-full, set-full}
-use Rattle.lists.specs.Sorted.{ascending, stands, placed, without, kept}
+use Rattle.lists.specs.Sorted.{ascending, stands, kept}
 use Rattle.lists.specs.SortedLaws.{without-none}
 use Rattle.lists.specs.Slots.{slotOf}
 use Rattle.lists.specs.SlotLaws.{FoundAt, AbsentAt, found-at, absent-at}
@@ -76,10 +76,7 @@ module _ {A : Type 0} {empty : A} {rank : A → List ℕ} (gone : A → Bool) {l
         count-is = rw (g, f .inserts, length-insert p x (take live rows) (f .inside)) (omega arith);
       }
 
-  -- the count after it fits the room
-  pub room-for : slotOf rank (rank x) (take live rows) ≡ Before p → live < 128
-  room-for e = ltb-true live 128 (rw (absent e .absent) at (k .room))
-
+  -- a row that stands is one of at least one
   pub some-live : slotOf rank (rank x) (take live rows) ≡ At p → 1 ≤ live
   some-live e = let inside = found e .inside in let counted = k .counted in omega arith
 

@@ -1,15 +1,14 @@
 -- Laws of slots: the loop that finds one, and what a slot says of the list.
-use mathlib.Core.Path.{_≡_, refl, ap, sym, _∙_, subst}
-use mathlib.Core.Bool.{Bool, true, false}
+use mathlib.Core.Path.{_≡_, refl, ap, _∙_, subst}
+use mathlib.Core.Bool.{true, false}
 use mathlib.Core.List.{List, [], _∷_}
-use Prim.Native.Nat.{ℕ, suc, _+_, _<_, _≤_, min}
+use Prim.Native.Nat.{ℕ, _+_, _<_, _≤_, min}
 use native.Mathlib.Omega.{arith}
 use native.Mathlib.Numerals.{add-one}
 use lib.ListN.{getD, length, take, drop, set, length-take, drop-of-length-le}
 use lib.Seq.{drop-cons, getD-take}
 use Rattle.laws.specs.declared.Order.{Order}
 use Rattle.laws.specs.declared.Order.the-variants.{Less, Same, More}
-use Rattle.laws.specs.Truth.{pick, either}
 use Rattle.laws.specs.Bytes.{sameBytes}
 use Rattle.laws.specs.ByteLaws.{same-self}
 use Rattle.laws.specs.Search.{firstWhere}
@@ -18,8 +17,8 @@ use Rattle.laws.specs.OrderLaws.{split-text}
 use Rattle.lists.specs.declared.Slot.{Slot}
 use Rattle.lists.specs.declared.Slot.the-variants.{At, Before}
 use Rattle.lists.specs.Places.{insertAt, removeAt}
-use Rattle.lists.specs.Sorted.{ascending, ascendingFrom, stands, look, placed, without}
-use Rattle.lists.specs.SortedLaws.{before-differs, after-differs, ascending-rest, none-after, look-none, without-none, none-behind}
+use Rattle.lists.specs.Sorted.{ascending, stands, look, placed, without}
+use Rattle.lists.specs.SortedLaws.{before-differs, after-differs, ascending-rest, look-none, none-behind}
 use Rattle.lists.specs.Slots.{next, slotOf}
 
 -- i places further

@@ -1,7 +1,7 @@
 -- Laws of rows in order: what a row put in its place, or given up, leaves of the order, of each other row, of tests of all rows
 -- and of sums.
 use mathlib.Core.Path.{_≡_, refl, ap, sym, _∙_, subst}
-use mathlib.Core.Logic.{_⊎_, inl, inr, ⊎-elim}
+use mathlib.Core.Logic.{_⊎_, ⊎-elim}
 use mathlib.Core.Bool.{Bool, true, false}
 use mathlib.Core.List.{List, [], _∷_, map}
 use Prim.Native.Nat.{ℕ, zero, suc, _+_, _<_, _≤_}
@@ -10,14 +10,14 @@ use lib.Dec.{ltb}
 use lib.ListN.{length, getD, set}
 use borrow.Author.Tests.{ltb-true}
 use Rattle.laws.specs.declared.Order.{Order}
-use Rattle.laws.specs.declared.Order.the-variants.{Less, Same, More}
-use Rattle.laws.specs.Truth.{pick, both, either}
+use Rattle.laws.specs.declared.Order.the-variants.{Less}
+use Rattle.laws.specs.Truth.{pick, either}
 use Rattle.laws.specs.TruthLaws.{both-true, both-hold, either-true, clash, picked, by-test, false-unless}
 use Rattle.laws.specs.Bytes.{sameBytes}
 use Rattle.laws.specs.ByteLaws.{are-same, same-self}
 use Rattle.laws.specs.Search.{everyLine, firstWhere}
 use Rattle.laws.specs.Order.{isLess, byOrder, bytesOrder}
-use Rattle.laws.specs.OrderLaws.{text-self, text-before, not-before-self, split-text, is-less-says}
+use Rattle.laws.specs.OrderLaws.{text-before, not-before-self, split-text, is-less-says}
 use Rattle.lists.specs.Sorted.{sumOf, ascendingFrom, ascending, stands, look, placed, without, kept}
 
 -- One rank before another is not the same.

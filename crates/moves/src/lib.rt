@@ -9,7 +9,7 @@ ghost use Rattle.lists.specs.KeptLaws.{Keeping};
 ghost use Rattle.rows.specs.Rows.{holdingRank, noLots, lotsOn, added, emptyHolding};
 ghost use Rattle.rows.specs.Book.{holdingsOf, withHoldings, withDay};
 ghost use Rattle.calls.specs.Calls.{makeAnswer, heldOf, openChecks, opened, openAnswer, closeChecks, closed, closeAnswer, turnChecks, turnAnswer};
-ghost use Rattle.calls.specs.CallLaws.{Opens, Closes};
+ghost use Rattle.calls.specs.PassLaws.{Opens, Closes};
 ghost use Rattle.calls.specs.NumberLaws.{heldRows};
 use calls::Outcome;
 use lists::Slot;

@@ -472,7 +472,7 @@ fn call(letter: u8, line: &[u8], b: Book) -> Outcome {
     }
 }
 
-// The ways to spoil a book: its head and its counts,
+// A book with its account, client code, day or a count spoilt.
 fn spoil_head(way: u32, b: Book) -> Book {
     let mut c = b;
     match way {
@@ -487,7 +487,7 @@ fn spoil_head(way: u32, b: Book) -> Book {
     c
 }
 
-// its holdings,
+// Holdings in wrong order, without lots, with too many, with fewer than pairs may tie, or with lots in unused room.
 fn spoil_holdings(way: u32, rows: [Holding; 128]) -> [Holding; 128] {
     let mut spoilt = rows;
     let first = rows[0];
@@ -512,7 +512,7 @@ fn spoil_holdings(way: u32, rows: [Holding; 128]) -> [Holding; 128] {
     spoilt
 }
 
-// its pairs.
+// Pairs in wrong order, with too many units, of no kind, or with units in unused room.
 fn spoil_pairs(way: u32, rows: [Pair; 128]) -> [Pair; 128] {
     let mut spoilt = rows;
     let first = rows[0];

@@ -104,12 +104,12 @@ pub fn find_pair(rows: [Pair; 128], paired: usize, k: Pair) -> Slot
     Slot::Before(i)
 }
 
-// The rows with `x` before the row `at`, and the last row gone.
-pub fn insert_holding(rows: [Holding; 128], at: usize, x: Holding) -> [Holding; 128]
-    ensures { λ r. ⌜ r ≡ take 128 (insertAt at x rows) ⌝ }
+// The rows with one more before the row `at`, and the last row gone.
+pub fn insert_holding(rows: [Holding; 128], at: usize, h: Holding) -> [Holding; 128]
+    ensures { λ r. ⌜ r ≡ take 128 (insertAt at h rows) ⌝ }
 {
     let mut a = rows;
-    let mut carry = x;
+    let mut carry = h;
     let mut i = at;
     while i < 128 {
         let t = a[i];
@@ -120,11 +120,11 @@ pub fn insert_holding(rows: [Holding; 128], at: usize, x: Holding) -> [Holding; 
     a
 }
 
-pub fn insert_pair(rows: [Pair; 128], at: usize, x: Pair) -> [Pair; 128]
-    ensures { λ r. ⌜ r ≡ take 128 (insertAt at x rows) ⌝ }
+pub fn insert_pair(rows: [Pair; 128], at: usize, p: Pair) -> [Pair; 128]
+    ensures { λ r. ⌜ r ≡ take 128 (insertAt at p rows) ⌝ }
 {
     let mut a = rows;
-    let mut carry = x;
+    let mut carry = p;
     let mut i = at;
     while i < 128 {
         let t = a[i];
@@ -166,24 +166,24 @@ pub fn remove_pair(rows: [Pair; 128], at: usize) -> [Pair; 128]
     a
 }
 
-// The rows with `x` for the row `at`.
-pub fn set_holding(rows: [Holding; 128], at: usize, x: Holding) -> [Holding; 128]
-    ensures { λ r. ⌜ r ≡ set rows at x ⌝ }
+// The rows with another for the row `at`.
+pub fn set_holding(rows: [Holding; 128], at: usize, h: Holding) -> [Holding; 128]
+    ensures { λ r. ⌜ r ≡ set rows at h ⌝ }
 {
     let mut a = rows;
     if at < 128 {
-        a[at] = x;
+        a[at] = h;
         return a;
     }
     a
 }
 
-pub fn set_pair(rows: [Pair; 128], at: usize, x: Pair) -> [Pair; 128]
-    ensures { λ r. ⌜ r ≡ set rows at x ⌝ }
+pub fn set_pair(rows: [Pair; 128], at: usize, p: Pair) -> [Pair; 128]
+    ensures { λ r. ⌜ r ≡ set rows at p ⌝ }
 {
     let mut a = rows;
     if at < 128 {
-        a[at] = x;
+        a[at] = p;
         return a;
     }
     a

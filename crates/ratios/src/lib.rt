@@ -104,9 +104,10 @@ fn own_allows(future: [u8; 3], option: [u8; 3]) -> Allowed
 pub fn allowed_of(future: [u8; 3], option: [u8; 3]) -> Allowed
     ensures { λ r. ⌜ r ≡ allowedOf future option ⌝ }
 {
+    let lines = RATIOS;
     let mut i: usize = 0;
     while i < 8 {
-        let line = RATIOS[i];
+        let line = lines[i];
         if is_named(future, option, line) {
             return line_allows(line);
         }

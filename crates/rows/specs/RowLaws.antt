@@ -115,11 +115,6 @@ pub lessened-series : (d : Side) (n : ℕ) (h : Holding) → lessened d n h .ser
 lessened-series Long n h = refl
 lessened-series Short n h = refl
 
-pub added-rank : (d : Side) (n : ℕ) (h : Holding) → holdingRank (added d n h) ≡ holdingRank h
-unfolding holdingRank
-added-rank Long n h = refl
-added-rank Short n h = refl
-
 pub lessened-rank : (d : Side) (n : ℕ) (h : Holding) → holdingRank (lessened d n h) ≡ holdingRank h
 unfolding holdingRank
 lessened-rank Long n h = refl

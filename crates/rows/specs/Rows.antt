@@ -6,7 +6,6 @@ use lib.Dec.{eqb}
 use Rattle.laws.specs.Truth.{both}
 use Rattle.laws.specs.Bytes.{sameBytes}
 use Rattle.series.specs.declared.Series.{Series}
-use Rattle.series.specs.declared.Nature.{Nature}
 use Rattle.series.specs.declared.Nature.the-variants.{Future}
 use Rattle.series.specs.declared.Side.{Side}
 use Rattle.series.specs.declared.Side.the-variants.{Long, Short}

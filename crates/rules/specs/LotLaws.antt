@@ -2,14 +2,14 @@
 -- is left of the holdings when each leg has taken its own.
 use mathlib.Core.Path.{_≡_, refl, ap, sym, _∙_, subst}
 use mathlib.Core.Logic.{_⊎_, inl, inr, ⊎-elim}
-use mathlib.Core.Bool.{Bool, true, false}
+use mathlib.Core.Bool.{Bool, true}
 use mathlib.Core.List.{List, [], _∷_, map}
 use Prim.Native.Nat.{ℕ, _+_, _-_, _≤_}
 use native.Mathlib.Omega.{arith}
 use lib.Dec.{leb}
 use borrow.Author.Tests.{le-leb, leb-true}
 use Rattle.laws.specs.Truth.{pick, both}
-use Rattle.laws.specs.TruthLaws.{both-true, both-hold, clash, by-test, same-test, false-unless}
+use Rattle.laws.specs.TruthLaws.{both-true, both-hold, clash, by-test, same-test}
 use Rattle.laws.specs.Bytes.{sameBytes}
 use Rattle.laws.specs.ByteLaws.{are-same, same-self}
 use Rattle.laws.specs.Search.{everyLine, firstWhere}

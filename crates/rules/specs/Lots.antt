@@ -1,6 +1,6 @@
 -- Document 01, "The book": "Tied lots of a series and side are the sum over pairs; free is total less tied and never negative".
 use mathlib.Core.Bool.{Bool, true, false}
-use mathlib.Core.List.{List, [], _∷_, map}
+use mathlib.Core.List.{List, map}
 use Prim.Native.Nat.{ℕ, _+_, _-_, _*_}
 use lib.Dec.{leb}
 use Rattle.laws.specs.Truth.{pick, both}

@@ -1,13 +1,13 @@
 -- Laws of the rules of a book: the test of soundness and the facts that it stands for are one.
-use mathlib.Core.Path.{_≡_, refl, ap, sym, _∙_, subst}
-use mathlib.Core.Bool.{Bool, true, false, not}
-use mathlib.Core.List.{List, [], _∷_, _++_}
+use mathlib.Core.Path.{_≡_, refl, ap, sym, _∙_}
+use mathlib.Core.Bool.{Bool, true, false}
+use mathlib.Core.List.{List, _++_}
 use Prim.Native.Nat.{ℕ, zero, suc, _-_, _*_, _≤_}
 use native.Mathlib.Omega.{arith}
 use lib.Dec.{eqb, leb}
 use lib.ListN.{length, take, drop, replicate, length-take, length-drop, take-append-drop}
 use borrow.Author.Tests.{eq-eqb, eqb-true, le-leb, leb-true, not-true}
-use Rattle.laws.specs.Truth.{both, within}
+use Rattle.laws.specs.Truth.{within}
 use Rattle.laws.specs.TruthLaws.{both-true, both-hold, within-true}
 use Rattle.laws.specs.Search.{everyLine}
 use Rattle.laws.specs.Checks.{allPass}

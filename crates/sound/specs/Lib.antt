@@ -1,2 +1,4 @@
 pub mod Checked
+pub mod HalvingLaws
 pub mod WalkLaws
+pub mod CheckedLaws

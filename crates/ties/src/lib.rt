@@ -9,7 +9,7 @@ ghost use Rattle.lists.specs.KeptLaws.{Keeping};
 ghost use Rattle.rows.specs.Rows.{pairRank, noUnits, lotsOn, withUnits, emptyPair};
 ghost use Rattle.rows.specs.Book.{pairsOf, withPairs};
 ghost use Rattle.calls.specs.Calls.{pairingChecks, joined, pairAnswer, splitChecks, parted, splitAnswer};
-ghost use Rattle.calls.specs.CallLaws.{Pairs, Splits};
+ghost use Rattle.calls.specs.PassLaws.{Pairs, Splits};
 ghost use Rattle.calls.specs.NumberLaws.{pairedRows, pairRest};
 use calls::Outcome;
 use lists::Slot;

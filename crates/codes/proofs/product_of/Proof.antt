@@ -10,10 +10,10 @@ use Rattle.codes.proofs.product_of.Statement.{statement}
 use Rattle.codes.proofs.product_of.Tie as tie
 
 abbrev Inv-loop : tie.InvT-loop
-Inv-loop code i₀ i = Searching (λ (p : Product). sameBytes code (p .code)) (λ (p : Product). p) (unlisted code) (productOf code) listed i
+Inv-loop code lines i₀ i = Searching (λ (p : Product). sameBytes code (p .code)) (λ (p : Product). p) (unlisted code) (productOf code) listed i
 
 abbrev μ-loop : tie.MeasureT-loop
-μ-loop code i₀ i = 16 - i
+μ-loop code lines i₀ i = 16 - i
 
 loop-holds : tie.Need-loop-holds Inv-loop μ-loop
 unfolding productOf

@@ -1,6 +1,6 @@
 use borrow.Author.Needs.{needs}
 use Rattle.calls.specs.Calls.{closeAnswer}
-use Rattle.calls.specs.CallLaws.{close-numbered, close-passes}
+use Rattle.calls.specs.PassLaws.{close-numbered, close-passes}
 use Rattle.calls.specs.NumberLaws.{refused-with, accepted-with, passes-all}
 use Rattle.moves.proofs.close.Statement.{statement}
 use Rattle.moves.proofs.close.Tie as tie

@@ -1,7 +1,6 @@
 use borrow.Author.Needs.{needs}
-use mathlib.Core.Path.{ap, _∙_}
+use mathlib.Core.Path.{_∙_}
 use Rattle.rows.specs.Book.{holdingsOf}
-use Rattle.rules.specs.Lots.{total}
 use Rattle.calls.specs.Calls.{closed}
 use Rattle.calls.specs.NumberLaws.{close-keeping}
 use Rattle.moves.proofs.close_book.Statement.{statement}

@@ -1,7 +1,7 @@
 use borrow.Author.Needs.{needs}
 use Rattle.rows.specs.Book.{noBook}
 use Rattle.calls.specs.Calls.{makeAnswer}
-use Rattle.calls.specs.CallLaws.{make-numbered}
+use Rattle.calls.specs.PassLaws.{make-numbered}
 use Rattle.calls.specs.NumberLaws.{make-number, refused-with, accepted-with}
 use Rattle.moves.proofs.make.Statement.{statement}
 use Rattle.moves.proofs.make.Tie as tie

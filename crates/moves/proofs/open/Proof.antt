@@ -1,6 +1,6 @@
 use borrow.Author.Needs.{needs}
 use Rattle.calls.specs.Calls.{openAnswer}
-use Rattle.calls.specs.CallLaws.{open-numbered, open-passes}
+use Rattle.calls.specs.PassLaws.{open-numbered, open-passes}
 use Rattle.calls.specs.NumberLaws.{refused-with, accepted-with, passes-all}
 use Rattle.moves.proofs.open.Statement.{statement}
 use Rattle.moves.proofs.open.Tie as tie

@@ -3,7 +3,6 @@ use mathlib.Core.Path.{ap, _∙_}
 use native.Mathlib.Omega.{arith}
 use Rattle.rows.specs.Rows.{lotsOn}
 use Rattle.rows.specs.Book.{holdingsOf}
-use Rattle.rules.specs.Lots.{total}
 use Rattle.calls.specs.Calls.{opened}
 use Rattle.calls.specs.HeldLaws.{held-on}
 use Rattle.calls.specs.NumberLaws.{open-keeping}

@@ -1,6 +1,6 @@
 use borrow.Author.Needs.{needs}
 use Rattle.calls.specs.Calls.{turnAnswer}
-use Rattle.calls.specs.CallLaws.{turn-numbered}
+use Rattle.calls.specs.PassLaws.{turn-numbered}
 use Rattle.calls.specs.NumberLaws.{refused-with, accepted-with}
 use Rattle.moves.proofs.turn.Statement.{statement}
 use Rattle.moves.proofs.turn.Tie as tie

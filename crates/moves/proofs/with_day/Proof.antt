@@ -1,4 +1,3 @@
-use borrow.Author.Needs.{needs}
 use mathlib.Core.Path.{refl}
 use Rattle.rows.specs.Book.{withDay}
 use Rattle.moves.proofs.with_day.Statement.{statement}

@@ -8,10 +8,10 @@ use Rattle.ratios.proofs.allowed_of.Statement.{statement}
 use Rattle.ratios.proofs.allowed_of.Tie as tie
 
 abbrev Inv-loop : tie.InvT-loop
-Inv-loop f o i₀ i = Searching (names f o) lineAllows (ownAllows f o) (allowedOf f o) ratios i
+Inv-loop f o lines i₀ i = Searching (names f o) lineAllows (ownAllows f o) (allowedOf f o) ratios i
 
 abbrev μ-loop : tie.MeasureT-loop
-μ-loop f o i₀ i = 8 - i
+μ-loop f o lines i₀ i = 8 - i
 
 loop-holds : tie.Need-loop-holds Inv-loop μ-loop
 unfolding allowedOf

@@ -1,7 +1,7 @@
 use mathlib.Core.Path.{_∙_}
 use borrow.Author.Needs.{needs}
 use Rattle.laws.specs.TruthLaws.{failed, passed}
-use Rattle.sound.specs.WalkLaws.{head-broken, holdings-broken, pairs-broken, lots-decide, walkable}
+use Rattle.sound.specs.CheckedLaws.{head-broken, holdings-broken, pairs-broken, lots-decide, walkable}
 use Rattle.sound.proofs.checked_book.Statement.{statement}
 use Rattle.sound.proofs.checked_book.Tie as tie
 

@@ -2,7 +2,7 @@ use mathlib.Core.List.{[], _∷_}
 use Prim.Native.Nat.{_-_}
 use native.Mathlib.Omega.{arith}
 use borrow.Author.Needs.{needs}
-use Rattle.sound.specs.WalkLaws.{Halving, halving-starts, tested-before, tested-behind, place-found}
+use Rattle.sound.specs.HalvingLaws.{Halving, halving-starts, tested-before, tested-behind, place-found}
 use Rattle.sound.proofs.place_of.Statement.{statement}
 use Rattle.sound.proofs.place_of.Tie as tie
 

@@ -1,6 +1,6 @@
 use borrow.Author.Needs.{needs}
 use Rattle.calls.specs.Calls.{pairAnswer}
-use Rattle.calls.specs.CallLaws.{pair-numbered, pair-passes}
+use Rattle.calls.specs.PassLaws.{pair-numbered, pair-passes}
 use Rattle.calls.specs.NumberLaws.{refused-with, accepted-with, passes-all}
 use Rattle.ties.proofs.pair.Statement.{statement}
 use Rattle.ties.proofs.pair.Tie as tie

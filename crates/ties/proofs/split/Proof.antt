@@ -1,6 +1,6 @@
 use borrow.Author.Needs.{needs}
 use Rattle.calls.specs.Calls.{splitAnswer}
-use Rattle.calls.specs.CallLaws.{split-numbered, split-passes}
+use Rattle.calls.specs.PassLaws.{split-numbered, split-passes}
 use Rattle.calls.specs.NumberLaws.{refused-with, accepted-with, passes-all}
 use Rattle.ties.proofs.split.Statement.{statement}
 use Rattle.ties.proofs.split.Tie as tie

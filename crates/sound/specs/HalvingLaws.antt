@@ -1,0 +1,164 @@
+-- Laws of finding a series among rows in order by halving: the keys of the rows, half by half, and the place where they stop being
+-- before the key.
+use mathlib.Core.Path.{_≡_, ap, sym, _∙_, subst}
+use mathlib.Core.Bool.{Bool, true, false, not}
+use mathlib.Core.List.{List, [], _∷_}
+use Prim.Native.Nat.{ℕ, _+_, _-_, _<_, _≤_}
+use native.Mathlib.Omega.{arith}
+use native.Mathlib.Decide.{decLt}
+use lib.ListN.{getD, length, take, set, length-take, length-set}
+use lib.Seq.{getD-take, getD-set-same, getD-set-other}
+use Rattle.laws.specs.declared.Order.the-variants.{Less}
+use Rattle.laws.specs.TruthLaws.{both-true, clash}
+use Rattle.laws.specs.Search.{everyLine}
+use Rattle.laws.specs.SearchLaws.{every-at}
+use Rattle.laws.specs.Order.{isLess, bytesOrder}
+use Rattle.laws.specs.OrderLaws.{text-before, is-less-says}
+use Rattle.lists.specs.Sorted.{ascending}
+use Rattle.lists.specs.SortedLaws.{before-at}
+use Rattle.series.specs.declared.Series.{Series}
+use Rattle.series.specs.declared.Nature.the-variants.{Future}
+use Rattle.series.specs.declared.Halves.{Halves}
+use Rattle.series.specs.Checks.{goodSeries}
+use Rattle.series.specs.Key.{highKey, natureKey, halvesOf}
+use Rattle.series.specs.KeyLaws.{halves-order}
+use Rattle.rows.specs.declared.Holding.{Holding}
+use Rattle.rows.specs.Rows.{seriesRank, holdingRank}
+use Rattle.rows.specs.RowLaws.{rank-order}
+use Rattle.rules.specs.Rules.{goodHolding}
+
+-- the key of the row i, half by half
+abbrev pub keyAt : List ℕ → List ℕ → ℕ → List ℕ
+keyAt highs lows i = getD highs i 0 ∷ getD lows i 0 ∷ []
+
+-- what a row behind the end would be
+abbrev pub noRow : Holding
+noRow = record { series = record { code = []; date = 0; nature = Future }; long = 0; short = 0 }
+
+abbrev pub halves : Series → List ℕ
+halves s = highKey s ∷ natureKey (s .nature) ∷ []
+
+-- Keys of n rows in order, which can be searched by halving.
+pub record Rising (highs lows : List ℕ) (n : ℕ) : Type 0 where
+  pub highs-long : n ≤ length highs
+  pub lows-long : n ≤ length lows
+  pub rising : (i j : ℕ) → i < j → j < n → bytesOrder (keyAt highs lows i) (keyAt highs lows j) ≡ Less
+
+-- r is the first of the n rows that is not before the key k.
+pub record PlaceIs (highs lows : List ℕ) (n : ℕ) (k : List ℕ) (r : ℕ) : Type 0 where
+  pub inside : r ≤ n
+  pub below : (i : ℕ) → i < r → bytesOrder (keyAt highs lows i) k ≡ Less
+  pub rest : (i : ℕ) → r ≤ i → i < n → bytesOrder (keyAt highs lows i) k ≡ Less → ⊥
+
+-- Halving: rows below `low` are before the key, rows from `high` on are not.
+pub record Halving (highs lows : List ℕ) (n : ℕ) (k : List ℕ) (low high : ℕ) : Type 0 where
+  pub apart : low ≤ high
+  pub inside : high ≤ n
+  pub below : (i : ℕ) → i < low → bytesOrder (keyAt highs lows i) k ≡ Less
+  pub rest : (i : ℕ) → high ≤ i → i < n → bytesOrder (keyAt highs lows i) k ≡ Less → ⊥
+
+pub halving-starts : (highs lows : List ℕ) (n : ℕ) (k : List ℕ) → Halving highs lows n k 0 n
+halving-starts highs lows n k = record { apart = omega arith; inside = omega arith; below = λ i lt. absurd (omega arith); rest = λ i le lt. absurd (omega arith) }
+
+module _ {highs lows : List ℕ} {n : ℕ} {k : List ℕ} {low high : ℕ} (s : Rising highs lows n) (h : Halving highs lows n k low high) (mid : ℕ) (from : low ≤ mid) (to : mid < high) where
+  pub halving-up : bytesOrder (keyAt highs lows mid) k ≡ Less → Halving highs lows n k (mid + 1) high
+  halving-up e =
+      record {
+        apart = omega arith;
+        inside = h .inside;
+        below = λ i lt. go i lt (decLt i mid);
+        rest = h .rest;
+      }
+    where
+      go : (i : ℕ) → i < mid + 1 → Dec (i < mid) → bytesOrder (keyAt highs lows i) k ≡ Less
+      go i lt (yes q) = let top = h .inside in text-before (keyAt highs lows i) (keyAt highs lows mid) k (s .rising i mid q (omega arith)) e
+      go i lt (no q) = let is : mid ≡ i = omega arith in subst (λ (j : ℕ). bytesOrder (keyAt highs lows j) k ≡ Less) is e
+
+  pub halving-down : (bytesOrder (keyAt highs lows mid) k ≡ Less → ⊥) → Halving highs lows n k low mid
+  halving-down e =
+      record {
+        apart = omega arith;
+        inside = let top = h .inside in omega arith;
+        below = h .below;
+        rest = λ i le lt. go i le lt (decLt mid i);
+      }
+    where
+      go : (i : ℕ) → mid ≤ i → i < n → Dec (mid < i) → bytesOrder (keyAt highs lows i) k ≡ Less → ⊥
+      go i le lt (yes q) f = e (text-before (keyAt highs lows mid) (keyAt highs lows i) k (s .rising mid i q lt) f)
+      go i le lt (no q) f = let is : i ≡ mid = omega arith in e (subst (λ (j : ℕ). bytesOrder (keyAt highs lows j) k ≡ Less) is f)
+
+  -- The test of the row in the middle moves the low end or the high one.
+  pub tested-before : {r : Bool} → r ≡ isLess (bytesOrder (keyAt highs lows mid) k) → r ≡ true → Halving highs lows n k (mid + 1) high
+  tested-before e t = halving-up (is-less-says _ (sym e ∙ t))
+
+  pub tested-behind : {r : Bool} → r ≡ isLess (bytesOrder (keyAt highs lows mid) k) → r ≡ false → Halving highs lows n k low mid
+  tested-behind e f = halving-down (λ q. clash (e ∙ ap isLess q) f)
+
+pub halving-ends : {highs lows : List ℕ} {n : ℕ} {k : List ℕ} {low high : ℕ} → Halving highs lows n k low high → high ≤ low → PlaceIs highs lows n k low
+halving-ends h le =
+    let up = h .apart in
+    let top = h .inside in
+    record { inside = omega arith; below = h .below; rest = λ i ge lt. h .rest i (omega arith) lt }
+
+-- Halving by the two halves of a series' key ends at its place.
+pub place-found : {highs lows : List ℕ} {n : ℕ} {k : Halves} {low high : ℕ} (s : Series) → k ≡ halvesOf s → Halving highs lows n (k .high ∷ k .low ∷ []) low high → high ≤ low → PlaceIs highs lows n (halves s) low
+place-found {highs} {lows} {n} {k} {low} s e h le = subst (λ (k : Halves). PlaceIs highs lows n (k .high ∷ k .low ∷ []) low) e (halving-ends h le)
+
+-- The keys of rows, row by row. Here and below d is what a row behind the end would be, which is never read.
+pub record Keyed (d : Holding) (rows : List Holding) (n : ℕ) (highs lows : List ℕ) : Type 0 where
+  pub highs-long : n ≤ length highs
+  pub lows-long : n ≤ length lows
+  pub highs-are : (i : ℕ) → i < n → getD highs i 0 ≡ highKey (getD rows i d .series)
+  pub lows-are : (i : ℕ) → i < n → getD lows i 0 ≡ natureKey (getD rows i d .series .nature)
+
+-- The keys of no row.
+pub keyed-starts : (d : Holding) (rows : List Holding) (highs lows : List ℕ) → Keyed d rows 0 highs lows
+keyed-starts d rows highs lows = record { highs-long = omega arith; lows-long = omega arith; highs-are = λ i lt. absurd (omega arith); lows-are = λ i lt. absurd (omega arith) }
+
+-- Setting the entry i makes a list that says f below i say it below i + 1.
+set-says : (f : ℕ → ℕ) (l : List ℕ) (i x : ℕ) → i < length l → x ≡ f i → ((j : ℕ) → j < i → getD l j 0 ≡ f j) → (j : ℕ) → j < i + 1 → Dec (j < i) → getD (set l i x) j 0 ≡ f j
+set-says f l i x inside e h j lt (yes q) = getD-set-other l i j x 0 (λ (z : j ≡ i). omega arith) ∙ h j q
+set-says f l i x inside e h j lt (no q) = let is : j ≡ i = omega arith in rw (is, getD-set-same l i x 0 inside) e
+
+-- The keys of one row more.
+pub keyed-next : {d : Holding} {rows : List Holding} {i : ℕ} {highs lows : List ℕ} {k : Halves} → Keyed d rows i highs lows → i < length highs → i < length lows → k ≡ halvesOf (getD rows i d .series) → Keyed d rows (i + 1) (set highs i (k .high)) (set lows i (k .low))
+keyed-next {d} {rows} {i} {highs} {lows} {k} keyed h l e =
+    record {
+      highs-long = simp length-set (omega arith);
+      lows-long = simp length-set (omega arith);
+      highs-are = λ j lt. set-says (λ (j : ℕ). highKey (getD rows j d .series)) highs i (k .high) h (ap (λ (z : Halves). z .high) e) (keyed .highs-are) j lt (decLt j i);
+      lows-are = λ j lt. set-says (λ (j : ℕ). natureKey (getD rows j d .series .nature)) lows i (k .low) l (ap (λ (z : Halves). z .low) e) (keyed .lows-are) j lt (decLt j i);
+    }
+
+-- The keys of fewer rows.
+pub keyed-fewer : {d : Holding} {rows : List Holding} {m n : ℕ} {highs lows : List ℕ} → n ≤ m → Keyed d rows m highs lows → Keyed d rows n highs lows
+keyed-fewer le keyed =
+    let h = keyed .highs-long in
+    let l = keyed .lows-long in
+    record { highs-long = omega arith; lows-long = omega arith; highs-are = λ i lt. keyed .highs-are i (omega arith); lows-are = λ i lt. keyed .lows-are i (omega arith) }
+
+-- Rows in order of good series have keys in order, and the order of keys is that of ranks.
+module _ {d : Holding} {rows : List Holding} {n : ℕ} {highs lows : List ℕ} (keyed : Keyed d rows n highs lows) (good : everyLine goodHolding (take n rows) ≡ true) (room : n ≤ length rows) where
+  good-at : (i : ℕ) → i < n → goodSeries (getD rows i d .series) ≡ true
+  unfolding goodHolding
+  good-at i lt =
+      let inside : i < length (take n rows) = simp length-take (omega arith) in
+      let g = every-at goodHolding (take n rows) i d good inside in
+      both-true (goodSeries (getD rows i d .series)) _ (subst (λ (h : Holding). goodHolding h ≡ true) (getD-take n rows i d lt) g) .0
+
+  pub key-order : (s : Series) (i : ℕ) → goodSeries s ≡ true → i < n → bytesOrder (keyAt highs lows i) (halves s) ≡ bytesOrder (holdingRank (getD rows i d)) (seriesRank s)
+  unfolding holdingRank
+  key-order s i g lt =
+      rw (keyed .highs-are i lt, keyed .lows-are i lt) (halves-order (getD rows i d .series) s (good-at i lt) g ∙ sym (rank-order (getD rows i d .series) s))
+
+  rises : ascending holdingRank (take n rows) ≡ true → (i j : ℕ) → i < j → j < n → bytesOrder (keyAt highs lows i) (keyAt highs lows j) ≡ Less
+  unfolding holdingRank
+  rises a i j lt le =
+      let inside : j < length (take n rows) = simp length-take (omega arith) in
+      let before = before-at holdingRank (take n rows) i j d a lt inside in
+      let e : bytesOrder (holdingRank (getD rows i d)) (holdingRank (getD rows j d)) ≡ Less = rw (getD-take n rows i d (omega arith), getD-take n rows j d le) at before in
+      let k = key-order (getD rows j d .series) i (good-at j le) (omega arith) in
+      rw (keyed .highs-are j le, keyed .lows-are j le) (k ∙ e)
+
+  pub rising-keys : ascending holdingRank (take n rows) ≡ true → Rising highs lows n
+  rising-keys a = record { highs-long = keyed .highs-long; lows-long = keyed .lows-long; rising = rises a }
