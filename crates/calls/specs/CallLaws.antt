@@ -3,7 +3,7 @@
 use mathlib.Core.Path.{_≡_, refl, ap, _∙_}
 use mathlib.Core.Bool.{Bool, true, false}
 use mathlib.Core.List.{List, []}
-use Prim.Native.Nat.{ℕ, _-_}
+use Prim.Native.Nat.{ℕ}
 use native.Mathlib.Omega.{arith}
 use borrow.Author.Tests.{leb-true}
 use Rattle.laws.specs.Truth.{pick, both}
@@ -24,9 +24,11 @@ use Rattle.rows.specs.BookLaws.{its-holdings, its-pairs, day-holdings, day-pair
 use Rattle.rules.specs.Lots.{tied, total, free, unitsOf}
 use Rattle.rules.specs.LotLaws.{new-lots}
 use Rattle.rules.specs.Rules.{accountFits, isIdentity, goodHolding, goodPair}
-use Rattle.rules.specs.RuleLaws.{sound-full, Sound}
+use Rattle.rules.specs.Facts.{Sound}
+use Rattle.rules.specs.RuleLaws.{sound-full}
 use Rattle.calls.specs.Calls.{answered, makeChecks, makeAnswer, openChecks, opened, openAnswer, closeChecks, closed, closeAnswer, pairingChecks, joined, pairAnswer, splitChecks, parted, splitAnswer, turnChecks, turnAnswer}
-use Rattle.calls.specs.PassLaws.{Turns, one-passes, open-passes, close-passes, pair-passes, split-passes, turn-passes}
+use Rattle.calls.specs.Facts.{Turns}
+use Rattle.calls.specs.PassLaws.{one-passes, open-passes, close-passes, pair-passes, split-passes, turn-passes}
 use Rattle.calls.specs.OpenLaws.{open-sound, close-sound}
 use Rattle.calls.specs.TieLaws.{pair-sound, split-sound}
 

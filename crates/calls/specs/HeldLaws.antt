@@ -22,7 +22,8 @@ use Rattle.rows.specs.Book.{holdingIn}
 use Rattle.rules.specs.Lots.{Leg, sameSide, ties, total}
 use Rattle.rules.specs.LotLaws.{one-rank, total-of-one, new-lots, less-on}
 use Rattle.rules.specs.Rules.{goodHolding}
-use Rattle.rules.specs.RuleLaws.{GoodHolding, holding-is, holding-back}
+use Rattle.rules.specs.Facts.{GoodHolding}
+use Rattle.rules.specs.RuleLaws.{holding-is, holding-back}
 use Rattle.calls.specs.Calls.{heldOf}
 
 -- Lots of a series and side, as a leg ties them: what open adds and close takes.

@@ -1,5 +1,6 @@
 pub mod Calls
 pub mod HeldLaws
+pub mod Facts
 pub mod PairedLaws
 pub mod PassLaws
 pub mod OpenLaws

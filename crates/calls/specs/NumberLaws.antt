@@ -2,7 +2,7 @@
 use mathlib.Core.Path.{_≡_, refl, ap, sym, _∙_}
 use mathlib.Core.Bool.{Bool, true, false, not}
 use mathlib.Core.List.{List, _++_}
-use Prim.Native.Nat.{ℕ, _+_, _-_, _≤_}
+use Prim.Native.Nat.{ℕ, _+_, _≤_}
 use native.Mathlib.Omega.{arith}
 use lib.Dec.{leb, ltb}
 use lib.ListN.{length, take, length-map}
@@ -16,7 +16,7 @@ use Rattle.lists.specs.Places.{full}
 use Rattle.lists.specs.PlaceLaws.{take-full}
 use Rattle.lists.specs.Sorted.{stands, kept}
 use Rattle.lists.specs.SortedLaws.{look-none, look-every}
-use Rattle.lists.specs.KeptLaws.{Keeping, KeptIs}
+use Rattle.lists.specs.Kept.{Keeping, KeptIs}
 use Rattle.dates.specs.Calendar.{isDay}
 use Rattle.series.specs.declared.Series.{Series}
 use Rattle.series.specs.declared.Side.{Side}
@@ -28,33 +28,17 @@ use Rattle.rows.specs.declared.Holding.{Holding}
 use Rattle.rows.specs.declared.Pair.{Pair}
 use Rattle.rows.specs.declared.Book.{Book}
 use Rattle.rows.specs.Rows.{seriesRank, holdingRank, pairRank, newHolding, newOf, noLots, noUnits, lotsOn, added, lessened, withUnits, emptyHolding, emptyPair}
-use Rattle.rows.specs.Book.{holdingsOf, pairsOf, holdingIn, pairIn, withHoldings, withPairs}
+use Rattle.rows.specs.Book.{holdingsOf, pairsOf, holdingIn, pairIn, heldRows, pairedRows, withHoldings, withPairs}
 use Rattle.rules.specs.Lots.{firstLeg, secondLeg, total, free, unitsOf, freeRows}
 use Rattle.rules.specs.LotLaws.{free-lots}
 use Rattle.rules.specs.Rules.{accountFits, isIdentity, lotsFit, countsFit, goodHolding, goodPair, soundBook}
 use Rattle.rules.specs.RuleLaws.{sound-is, holdings-good, holdings-count, pairs-good, holding-is, pair-is, counts-are}
 use Rattle.sound.specs.declared.Checked.{Checked}
 use Rattle.sound.specs.Checked.{checkedAs, checkedBook, notSound}
-use Rattle.calls.specs.declared.Outcome.{Outcome}
-use Rattle.calls.specs.Calls.{answered, makeChecks, bookChecks, heldOf, openChecks, closeChecks, legFree, pairingChecks, splitChecks, turnChecks}
+use Rattle.calls.specs.Calls.{outcome, pairRest, answered, makeChecks, bookChecks, heldOf, openChecks, closeChecks, legFree, pairingChecks, splitChecks, turnChecks}
 use Rattle.calls.specs.HeldLaws.{held-on, opened-rank, closed-rank, lots-stand}
 use Rattle.calls.specs.PairedLaws.{units-stand}
-use Rattle.calls.specs.PassLaws.{Opens, Closes, Pairs, Splits}
-
-abbrev pub outcome : ℕ → Book → Outcome
-outcome n b = record { number = n; book = b }
-
--- a book with other rows in its arrays
-abbrev pub heldRows : Book → List Holding → ℕ → Book
-heldRows b rows held = record { account = b .account; identity = b .identity; day = b .day; holdings = rows; held = held; pairs = b .pairs; paired = b .paired }
-
-abbrev pub pairedRows : Book → List Pair → ℕ → Book
-pairedRows b rows paired = record { account = b .account; identity = b .identity; day = b .day; holdings = b .holdings; held = b .held; pairs = rows; paired = paired }
-
--- the number of a pair's checks behind those of its series
-abbrev pub pairRest : Pair → Bool → Bool → Bool → ℕ
-pairRest p first second room =
-    pick (countsFit (p .r1) (p .r2) (p .units)) (orElse (pairNumber (p .kind) (p .first) (p .second) (p .r1) (p .r2)) (pick (both first second) (pick room 0 11) 9)) 6
+use Rattle.calls.specs.Facts.{Opens, Closes, Pairs, Splits}
 
 -- An answer: refused with its number and the book handed in, or accepted with the new one.
 pub refused-with : (cs : List Check) (b new : Book) (n : ℕ) → n ≡ firstFailing cs → (n ≡ 0 → ⊥) → outcome n b ≡ answered cs b new

@@ -22,10 +22,11 @@ use Rattle.rows.specs.BookLaws.{new-holdings, same-pairs}
 use Rattle.rules.specs.Lots.{ties, tied, total, free, unitsOf}
 use Rattle.rules.specs.LotLaws.{one-rank, total-of-one, tied-of-one, ties-of-one, ties-own, ties-itself}
 use Rattle.rules.specs.Rules.{goodHolding}
-use Rattle.rules.specs.RuleLaws.{sound-full, Sound, holdings-good, holdings-order, holdings-count}
+use Rattle.rules.specs.Facts.{Sound}
+use Rattle.rules.specs.RuleLaws.{sound-full, holdings-good, holdings-order, holdings-count}
 use Rattle.calls.specs.Calls.{heldOf, opened, closed}
 use Rattle.calls.specs.HeldLaws.{lotsOf, opened-rank, closed-rank, lots-stand, opened-total, closed-total, opened-good, closed-good}
-use Rattle.calls.specs.PassLaws.{Opens, Closes}
+use Rattle.calls.specs.Facts.{Opens, Closes}
 
 -- A sound book with other holdings, which cover what its pairs tie.
 sound-holdings : (b : Book) (hs : List Holding) → Sound b → length hs ≤ 128 → everyLine goodHolding hs ≡ true → ascending holdingRank hs ≡ true → ((s : Series) (d : Side) → tied (pairsOf b) s d ≤ total hs s d) → Sound (withHoldings b hs)

@@ -1,7 +1,7 @@
 -- Laws of pair and split on lists: what is tied of every series and side and what units stand afterwards, and that good rows
 -- stay good.
 use mathlib.Core.Path.{_≡_, refl, ap, sym, _∙_, subst}
-use mathlib.Core.Logic.{_⊎_, ⊎-elim}
+use mathlib.Core.Logic.{⊎-elim}
 use mathlib.Core.Bool.{Bool, true, false}
 use mathlib.Core.List.{List}
 use Prim.Native.Nat.{ℕ, zero, suc, _+_, _-_, _*_, _≤_}
@@ -32,7 +32,9 @@ use Rattle.rows.specs.Book.{pairIn}
 use Rattle.rules.specs.Lots.{Leg, firstLeg, secondLeg, sameSide, ties, tiedBy, tied, total, unitsOf}
 use Rattle.rules.specs.LotLaws.{one-rank, tied-of-one, total-of-one, ties-of-one, ties-own, ties-itself}
 use Rattle.rules.specs.Rules.{countsFit, goodPair}
-use Rattle.rules.specs.RuleLaws.{counts-are, counts-back, GoodPair, pair-is, pair-back}
+use Rattle.rules.specs.Facts.{GoodPair}
+use Rattle.rules.specs.RuleLaws.{counts-are, counts-back, pair-is, pair-back}
+use Rattle.calls.specs.Facts.{finds}
 
 -- Pairs that are one have one rank.
 pub one-pair : (p q : Pair) → samePair p q ≡ true → pairRank p ≡ pairRank q
@@ -168,10 +170,6 @@ module _ (ps : List Pair) (p : Pair) (a : ascending pairRank ps ≡ true) where
       kept-units (unitsOf ps p - p .units) q (unitsOf ps q - pick (samePair p q) (p .units) 0)
       (λ e. let one = units-of-one ps p q (one-pair p q e) in rw e (omega arith))
       (λ e. rw e (omega arith))
-
--- a leg's own lots are free
-abbrev pub finds : List Holding → List Pair → Leg → Type 0
-finds hs ps leg = leg .lots ≤ total hs (leg .series) (leg .side) - tied ps (leg .series) (leg .side)
 
 -- A pair whose legs find their lots among the free ones leaves no more tied than there is.
 module _ (hs : List Holding) (ps : List Pair) (p : Pair) (never : (s : Series) (d : Side) → tied ps s d ≤ total hs s d) (gf : goodSeries (p .first) ≡ true) (gs : goodSeries (p .second) ≡ true) (may : mayStand (p .kind) (p .first) (p .second) (p .r1) (p .r2) ≡ true) where

@@ -1,29 +1,26 @@
--- What is known of a call that no check refuses: the facts behind its checks.
+-- Laws of the checks: each refuses by a number that is not 0, and a call that none refuses has the facts behind them.
 use mathlib.Core.Path.{_≡_, refl}
 use mathlib.Core.Bool.{Bool, true, false}
 use mathlib.Core.List.{List, [], _∷_, _++_}
-use Prim.Native.Nat.{ℕ, _+_, _-_, _<_, _≤_}
-use lib.Dec.{ltb}
+use Prim.Native.Nat.{ℕ, _+_, _-_}
 use borrow.Author.Tests.{leb-true, ltb-true}
-use Rattle.laws.specs.Truth.{both, either}
+use Rattle.laws.specs.Truth.{both}
 use Rattle.laws.specs.TruthLaws.{both-true, within-true}
 use Rattle.laws.specs.Checks.{Check, _unless_, allPass, numbered}
 use Rattle.laws.specs.CheckLaws.{pass-both}
-use Rattle.lists.specs.Sorted.{stands}
-use Rattle.dates.specs.Calendar.{isDay}
 use Rattle.series.specs.declared.Series.{Series}
 use Rattle.series.specs.declared.Side.{Side}
 use Rattle.series.specs.Checks.{seriesChecks, goodSeries}
 use Rattle.pairing.specs.Rules.{partsOf, pairChecks, mayStand}
 use Rattle.rows.specs.declared.Pair.{Pair}
 use Rattle.rows.specs.declared.Book.{Book}
-use Rattle.rows.specs.Rows.{seriesRank, holdingRank, pairRank}
 use Rattle.rows.specs.Book.{holdingsOf, pairsOf}
 use Rattle.rules.specs.Lots.{Leg, firstLeg, secondLeg, tied, total, free, unitsOf}
 use Rattle.rules.specs.Rules.{countsFit, soundBook}
-use Rattle.rules.specs.RuleLaws.{Sound, sound-is}
+use Rattle.rules.specs.Facts.{Sound}
+use Rattle.rules.specs.RuleLaws.{sound-is}
 use Rattle.calls.specs.Calls.{makeChecks, bookChecks, openChecks, closeChecks, legFree, pairingChecks, splitChecks, turnChecks}
-use Rattle.calls.specs.PairedLaws.{finds}
+use Rattle.calls.specs.Facts.{finds, Opens, Closes, Pairs, Splits, Turns}
 
 -- Every check of every call refuses by a number that is not 0.
 pub make-numbered : (account identity day : ℕ) → numbered (makeChecks account identity day) ≡ true
@@ -78,15 +75,6 @@ last-three : (k m n : ℕ) (x y z : Bool) → allPass (k unless x ∷ m unless y
 unfolding allPass
 last-three k m n x y z e = let h = both-true x _ e in let g = both-true y _ (h .1) in (h .0, g .0, one-passes z (g .1))
 
--- Open.
-pub record Opens (b : Book) (s : Series) (d : Side) (n : ℕ) : Type 0 where
-  pub sound : Sound b
-  pub series-good : goodSeries s ≡ true
-  pub some : 1 ≤ n
-  pub few : n ≤ 100000
-  pub fits : total (holdingsOf b) s d + n ≤ 100000
-  pub room : either (stands holdingRank (seriesRank s) (holdingsOf b)) (ltb (b .held) 128) ≡ true
-
 pub open-passes : (b : Book) (s : Series) (d : Side) (n : ℕ) → allPass (openChecks b s d n) ≡ true → Opens b s d n
 unfolding openChecks
 open-passes b s d n e =
@@ -95,14 +83,6 @@ open-passes b s d n e =
     let w = within-true 1 100000 n (k .0) in
     record { sound = h .0; series-good = h .1; some = w .0; few = w .1; fits = leb-true (total (holdingsOf b) s d + n) 100000 (k .1); room = k .2 }
 
--- Close.
-pub record Closes (b : Book) (s : Series) (d : Side) (n : ℕ) : Type 0 where
-  pub sound : Sound b
-  pub series-good : goodSeries s ≡ true
-  pub some : 1 ≤ n
-  pub few : n ≤ 100000
-  pub enough : n ≤ free b s d
-
 pub close-passes : (b : Book) (s : Series) (d : Side) (n : ℕ) → allPass (closeChecks b s d n) ≡ true → Closes b s d n
 unfolding closeChecks
 close-passes b s d n e =
@@ -110,17 +90,6 @@ close-passes b s d n e =
     let k = last-two 6 9 _ _ (h .2) in
     let w = within-true 1 100000 n (k .0) in
     record { sound = h .0; series-good = h .1; some = w .0; few = w .1; enough = leb-true n (free b s d) (k .1) }
-
--- Pair.
-pub record Pairs (b : Book) (p : Pair) : Type 0 where
-  pub sound : Sound b
-  pub first-good : goodSeries (p .first) ≡ true
-  pub second-good : goodSeries (p .second) ≡ true
-  pub counts : countsFit (p .r1) (p .r2) (p .units) ≡ true
-  pub allowed : mayStand (p .kind) (p .first) (p .second) (p .r1) (p .r2) ≡ true
-  pub first-free : finds (holdingsOf b) (pairsOf b) (firstLeg p)
-  pub second-free : finds (holdingsOf b) (pairsOf b) (secondLeg p)
-  pub room : either (stands pairRank (pairRank p) (pairsOf b)) (ltb (b .paired) 128) ≡ true
 
 after-two : (b : Book) (s t : Series) (ds : List Check) → allPass (bookChecks b ++ (seriesChecks s ++ (seriesChecks t ++ ds))) ≡ true → (Sound b) × (goodSeries s ≡ true) × (goodSeries t ≡ true) × (allPass ds ≡ true)
 unfolding goodSeries
@@ -152,26 +121,12 @@ pair-passes b p e =
       room = m .1;
     }
 
--- Split.
-pub record Splits (b : Book) (p : Pair) : Type 0 where
-  pub sound : Sound b
-  pub first-good : goodSeries (p .first) ≡ true
-  pub second-good : goodSeries (p .second) ≡ true
-  pub counts : countsFit (p .r1) (p .r2) (p .units) ≡ true
-  pub enough : p .units ≤ unitsOf (pairsOf b) p
-
 pub split-passes : (b : Book) (p : Pair) → allPass (splitChecks b p) ≡ true → Splits b p
 unfolding splitChecks
 split-passes b p e =
     let h = after-two b (p .first) (p .second) _ e in
     let k = last-two 6 12 _ _ (h .3) in
     record { sound = h .0; first-good = h .1; second-good = h .2; counts = k .0; enough = leb-true (p .units) (unitsOf (pairsOf b) p) (k .1) }
-
--- Turn.
-pub record Turns (b : Book) (day : ℕ) : Type 0 where
-  pub sound : Sound b
-  pub day-is : isDay day ≡ true
-  pub later : b .day < day
 
 pub turn-passes : (b : Book) (day : ℕ) → allPass (turnChecks b day) ≡ true → Turns b day
 unfolding turnChecks

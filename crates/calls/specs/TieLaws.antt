@@ -22,11 +22,12 @@ use Rattle.rows.specs.Book.{holdingsOf, pairsOf, withPairs}
 use Rattle.rows.specs.BookLaws.{new-pairs, same-holdings}
 use Rattle.rules.specs.Lots.{tiedBy, tied, total, free, unitsOf}
 use Rattle.rules.specs.Rules.{goodPair}
-use Rattle.rules.specs.RuleLaws.{sound-full, Sound, holdings-good, pairs-good, pairs-order, pairs-count, counts-are}
+use Rattle.rules.specs.Facts.{Sound}
+use Rattle.rules.specs.RuleLaws.{sound-full, holdings-good, pairs-good, pairs-order, pairs-count, counts-are}
 use Rattle.calls.specs.Calls.{joined, parted}
 use Rattle.calls.specs.HeldLaws.{total-fits}
 use Rattle.calls.specs.PairedLaws.{one-pair, units-stand, units-of-one, joined-tied, parted-tied, joined-units, parted-units, pair-fits, joined-good, parted-good}
-use Rattle.calls.specs.PassLaws.{Pairs, Splits}
+use Rattle.calls.specs.Facts.{Pairs, Splits}
 
 units-rank : (n : ℕ) (p : Pair) → pairRank (withUnits n p) ≡ pairRank p
 unfolding pairRank

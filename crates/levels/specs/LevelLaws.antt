@@ -1,7 +1,7 @@
 -- Laws of levels: small futures' parts are whole, a raised rate and b are exact, and how large an amount and a rate can be.
 use mathlib.Core.Path.{_≡_, ap, _∙_}
 use mathlib.Core.Bool.{true}
-use Prim.Native.Nat.{ℕ, _*_, _/_, _%_, _≤_, _<_}
+use Prim.Native.Nat.{ℕ, _*_, _/_, _%_, _≤_}
 use native.Mathlib.Nat.{div-add-mod', mul-assoc, mul-le-mul, div-le-self, le-trans}
 use native.Mathlib.Omega.{arith}
 use lib.Dec.{lit<}

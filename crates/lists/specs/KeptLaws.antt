@@ -5,31 +5,17 @@ use mathlib.Core.Bool.{Bool, true, false}
 use mathlib.Core.List.{List, [], _∷_, _++_}
 use Prim.Native.Nat.{ℕ, _+_, _-_, _<_, _≤_}
 use native.Mathlib.Omega.{arith}
-use lib.Dec.{ltb}
 use lib.ListN.{length, take, set, length-set}
 use lib.Seq.{take-all}
 use borrow.Author.Tests.{ltb-true}
-use Rattle.laws.specs.Truth.{either}
 use Rattle.lists.specs.declared.Slot.the-variants.{At, Before}
 use Rattle.lists.specs.Places.{insertAt, removeAt, full}
 use Rattle.lists.specs.PlaceLaws.{length-insert, length-remove, length-full, insert-full, remove-full, set-full}
-use Rattle.lists.specs.Sorted.{ascending, stands, kept}
+use Rattle.lists.specs.Sorted.{kept}
 use Rattle.lists.specs.SortedLaws.{without-none}
 use Rattle.lists.specs.Slots.{slotOf}
 use Rattle.lists.specs.SlotLaws.{FoundAt, AbsentAt, found-at, absent-at}
-
--- An array of 128 rows: its live rows in order, then empty ones; with room for the row x.
-pub record Keeping {A : Type 0} (empty : A) (rank : A → List ℕ) (live : ℕ) (rows : List A) (x : A) : Type 0 where
-  pub few : live ≤ 128
-  pub counted : length (take live rows) ≡ live
-  pub filled : rows ≡ full 128 empty (take live rows)
-  pub in-order : ascending rank (take live rows) ≡ true
-  pub room : either (stands rank (rank x) (take live rows)) (ltb live 128) ≡ true
-
--- The rows r, of which n are live, are those with x kept.
-pub record KeptIs {A : Type 0} (empty : A) (rank : A → List ℕ) (gone : A → Bool) (live : ℕ) (rows : List A) (x : A) (r : List A) (n : ℕ) : Type 0 where
-  pub rows-are : r ≡ full 128 empty (kept rank gone x (take live rows))
-  pub count-is : n ≡ length (kept rank gone x (take live rows))
+use Rattle.lists.specs.Kept.{Keeping, KeptIs}
 
 module _ {A : Type 0} {empty : A} {rank : A → List ℕ} (gone : A → Bool) {live : ℕ} {rows : List A} {x : A} (k : Keeping empty rank live rows x) (p : ℕ) where
   found : slotOf rank (rank x) (take live rows) ≡ At p → FoundAt rank empty x (take live rows) p

@@ -5,4 +5,5 @@ pub mod SortedLaws
 pub mod Slots
 pub mod SlotLaws
 pub mod WalkLaws
+pub mod Kept
 pub mod KeptLaws

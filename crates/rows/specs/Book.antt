@@ -24,12 +24,19 @@ unfoldable pub bookOf : ℕ → ℕ → ℕ → List Holding → List Pair → B
 bookOf account identity day hs ps =
     record { account = account; identity = identity; day = day; holdings = full 128 emptyHolding hs; held = length hs; pairs = full 128 emptyPair ps; paired = length ps }
 
+-- the book with other rows in its arrays
+abbrev pub heldRows : Book → List Holding → ℕ → Book
+heldRows b rows held = record { account = b .account; identity = b .identity; day = b .day; holdings = rows; held = held; pairs = b .pairs; paired = b .paired }
+
+abbrev pub pairedRows : Book → List Pair → ℕ → Book
+pairedRows b rows paired = record { account = b .account; identity = b .identity; day = b .day; holdings = b .holdings; held = b .held; pairs = rows; paired = paired }
+
 -- the book with other holdings, other pairs, another day
 unfoldable pub withHoldings : Book → List Holding → Book
-withHoldings b hs = record { account = b .account; identity = b .identity; day = b .day; holdings = full 128 emptyHolding hs; held = length hs; pairs = b .pairs; paired = b .paired }
+withHoldings b hs = heldRows b (full 128 emptyHolding hs) (length hs)
 
 unfoldable pub withPairs : Book → List Pair → Book
-withPairs b ps = record { account = b .account; identity = b .identity; day = b .day; holdings = b .holdings; held = b .held; pairs = full 128 emptyPair ps; paired = length ps }
+withPairs b ps = pairedRows b (full 128 emptyPair ps) (length ps)
 
 unfoldable pub withDay : Book → ℕ → Book
 withDay b day = record { account = b .account; identity = b .identity; day = day; holdings = b .holdings; held = b .held; pairs = b .pairs; paired = b .paired }

@@ -1,6 +1,6 @@
 -- Laws of the rules of a book: the test of soundness and the facts that it stands for are one.
 use mathlib.Core.Path.{_≡_, refl, ap, sym, _∙_}
-use mathlib.Core.Bool.{Bool, true, false}
+use mathlib.Core.Bool.{Bool, true}
 use mathlib.Core.List.{List, _++_}
 use Prim.Native.Nat.{ℕ, zero, suc, _-_, _*_, _≤_}
 use native.Mathlib.Omega.{arith}
@@ -15,27 +15,17 @@ use Rattle.lists.specs.Places.{full}
 use Rattle.lists.specs.PlaceLaws.{length-full, take-full, drop-full}
 use Rattle.lists.specs.Sorted.{ascending}
 use Rattle.dates.specs.Calendar.{isDay}
-use Rattle.series.specs.declared.Series.{Series}
-use Rattle.series.specs.declared.Side.{Side}
 use Rattle.series.specs.Checks.{goodSeries}
-use Rattle.pairing.specs.Rules.{mayStand}
 use Rattle.rows.specs.declared.Holding.{Holding}
 use Rattle.rows.specs.declared.Pair.{Pair}
 use Rattle.rows.specs.declared.Book.{Book}
-use Rattle.rows.specs.Rows.{holdingRank, pairRank, noLots, emptyHolding, emptyPair, isEmptyHolding, isEmptyPair}
+use Rattle.rows.specs.Rows.{holdingRank, pairRank, emptyHolding, emptyPair, isEmptyHolding, isEmptyPair}
 use Rattle.rows.specs.RowLaws.{empty-holding, empty-pair, empty-holding-is, empty-pair-is, all-empty}
 use Rattle.rows.specs.Book.{holdingsOf, pairsOf}
-use Rattle.rules.specs.Lots.{tied, total, covered}
+use Rattle.rules.specs.Lots.{covered}
 use Rattle.rules.specs.LotLaws.{covered-all, all-covered}
 use Rattle.rules.specs.Rules.{accountFits, isIdentity, ratioFits, lotsFit, countsFit, goodHolding, goodPair, rowsSound, holdingsSound, pairsSound, bookRules, soundBook}
-
--- Rows of a book in their array: at most 128, each good, in order, and behind them empty rows.
-pub record SoundRows {A : Type 0} (empty : A) (good : A → Bool) (rank : A → List ℕ) (live : ℕ) (rows : List A) : Type 0 where
-  pub few : live ≤ 128
-  pub counted : length (take live rows) ≡ live
-  pub filled : rows ≡ full 128 empty (take live rows)
-  pub all-good : everyLine good (take live rows) ≡ true
-  pub in-order : ascending rank (take live rows) ≡ true
+use Rattle.rules.specs.Facts.{SoundRows, GoodHolding, Counts, GoodPair, Sound}
 
 module _ {A : Type 0} (isEmpty good : A → Bool) (empty : A) (rank : A → List ℕ) where
   pub rows-are : ((x : A) → isEmpty x ≡ true → x ≡ empty) → (live : ℕ) (rows : List A) → rowsSound isEmpty good rank live rows ≡ true → SoundRows empty good rank live rows
@@ -85,13 +75,6 @@ sound-full empty good rank l few g a =
       in-order = rw e a;
     }
 
--- What a good holding and a good pair are.
-pub record GoodHolding (h : Holding) : Type 0 where
-  pub series-good : goodSeries (h .series) ≡ true
-  pub long-fits : h .long ≤ 100000
-  pub short-fits : h .short ≤ 100000
-  pub some : noLots h ≡ false
-
 pub holding-is : (h : Holding) → goodHolding h ≡ true → GoodHolding h
 unfolding goodHolding
 holding-is h e =
@@ -103,18 +86,6 @@ holding-is h e =
 pub holding-back : (h : Holding) → GoodHolding h → goodHolding h ≡ true
 unfolding goodHolding
 holding-back h g = rw (g .series-good, le-leb (h .long) 100000 (g .long-fits), le-leb (h .short) 100000 (g .short-fits), g .some)
-
-pub record Counts (r1 r2 units : ℕ) : Type 0 where
-  pub some1 : 1 ≤ r1
-  pub few1 : r1 ≤ 100
-  pub some2 : 1 ≤ r2
-  pub few2 : r2 ≤ 100
-  pub some-units : 1 ≤ units
-  pub few-units : units ≤ 100000
-  pub some-lots1 : 1 ≤ r1 * units
-  pub few-lots1 : r1 * units ≤ 100000
-  pub some-lots2 : 1 ≤ r2 * units
-  pub few-lots2 : r2 * units ≤ 100000
 
 pub counts-are : (r1 r2 units : ℕ) → countsFit r1 r2 units ≡ true → Counts r1 r2 units
 unfolding countsFit
@@ -141,12 +112,6 @@ counts-back r1 r2 units c =
     (both-hold (is-within (c .some-units) (c .few-units))
     (both-hold (is-within (c .some-lots1) (c .few-lots1)) (is-within (c .some-lots2) (c .few-lots2)))))
 
-pub record GoodPair (p : Pair) : Type 0 where
-  pub first-good : goodSeries (p .first) ≡ true
-  pub second-good : goodSeries (p .second) ≡ true
-  pub counts : countsFit (p .r1) (p .r2) (p .units) ≡ true
-  pub standing : mayStand (p .kind) (p .first) (p .second) (p .r1) (p .r2) ≡ true
-
 pub pair-is : (p : Pair) → goodPair p ≡ true → GoodPair p
 unfolding goodPair
 pair-is p e =
@@ -158,15 +123,6 @@ pair-is p e =
 pub pair-back : (p : Pair) → GoodPair p → goodPair p ≡ true
 unfolding goodPair
 pair-back p g = both-hold (g .first-good) (both-hold (g .second-good) (both-hold (g .counts) (g .standing)))
-
--- What a sound book is.
-pub record Sound (b : Book) : Type 0 where
-  pub account-fits : b .account ≤ 9999999
-  pub identity-is : isIdentity (b .identity) ≡ true
-  pub day-is : isDay (b .day) ≡ true
-  pub holdings-sound : SoundRows emptyHolding goodHolding holdingRank (b .held) (b .holdings)
-  pub pairs-sound : SoundRows emptyPair goodPair pairRank (b .paired) (b .pairs)
-  pub never-negative : (s : Series) (d : Side) → tied (pairsOf b) s d ≤ total (holdingsOf b) s d
 
 pub holdings-are : (held : ℕ) (rows : List Holding) → holdingsSound held rows ≡ true → SoundRows emptyHolding goodHolding holdingRank held rows
 unfolding holdingsSound

@@ -2,7 +2,7 @@
 use mathlib.Core.Path.{_≡_, refl, ap, sym, _∙_}
 use mathlib.Core.Bool.{Bool, true, false}
 use mathlib.Core.List.{List}
-use Prim.Native.Nat.{ℕ, _-_}
+use Prim.Native.Nat.{ℕ}
 use lib.ListN.{take}
 use Rattle.laws.specs.Truth.{both}
 use Rattle.laws.specs.TruthLaws.{both-end, by-test}
@@ -17,7 +17,7 @@ use Rattle.rules.specs.Rules.{accountFits, isIdentity, holdingsSound, pairsSoun
 use Rattle.rules.specs.RuleLaws.{holdings-are, pairs-are}
 use Rattle.sound.specs.declared.Checked.{Checked}
 use Rattle.sound.specs.Checked.{notSound, checkedAs, checkedBook}
-use Rattle.sound.specs.WalkLaws.{Walkable}
+use Rattle.sound.specs.Walk.{Walkable}
 
 -- The tests of a book, in the order of the calls: its head, its holdings, its pairs and its tied lots.
 module _ (b : Book) where

@@ -1,9 +1,9 @@
 -- Laws of finding a series among rows in order by halving: the keys of the rows, half by half, and the place where they stop being
 -- before the key.
 use mathlib.Core.Path.{_≡_, ap, sym, _∙_, subst}
-use mathlib.Core.Bool.{Bool, true, false, not}
+use mathlib.Core.Bool.{Bool, true, false}
 use mathlib.Core.List.{List, [], _∷_}
-use Prim.Native.Nat.{ℕ, _+_, _-_, _<_, _≤_}
+use Prim.Native.Nat.{ℕ, _+_, _<_, _≤_}
 use native.Mathlib.Omega.{arith}
 use native.Mathlib.Decide.{decLt}
 use lib.ListN.{getD, length, take, set, length-take, length-set}
@@ -17,7 +17,6 @@ use Rattle.laws.specs.OrderLaws.{text-before, is-less-says}
 use Rattle.lists.specs.Sorted.{ascending}
 use Rattle.lists.specs.SortedLaws.{before-at}
 use Rattle.series.specs.declared.Series.{Series}
-use Rattle.series.specs.declared.Nature.the-variants.{Future}
 use Rattle.series.specs.declared.Halves.{Halves}
 use Rattle.series.specs.Checks.{goodSeries}
 use Rattle.series.specs.Key.{highKey, natureKey, halvesOf}
@@ -26,29 +25,7 @@ use Rattle.rows.specs.declared.Holding.{Holding}
 use Rattle.rows.specs.Rows.{seriesRank, holdingRank}
 use Rattle.rows.specs.RowLaws.{rank-order}
 use Rattle.rules.specs.Rules.{goodHolding}
-
--- the key of the row i, half by half
-abbrev pub keyAt : List ℕ → List ℕ → ℕ → List ℕ
-keyAt highs lows i = getD highs i 0 ∷ getD lows i 0 ∷ []
-
--- what a row behind the end would be
-abbrev pub noRow : Holding
-noRow = record { series = record { code = []; date = 0; nature = Future }; long = 0; short = 0 }
-
-abbrev pub halves : Series → List ℕ
-halves s = highKey s ∷ natureKey (s .nature) ∷ []
-
--- Keys of n rows in order, which can be searched by halving.
-pub record Rising (highs lows : List ℕ) (n : ℕ) : Type 0 where
-  pub highs-long : n ≤ length highs
-  pub lows-long : n ≤ length lows
-  pub rising : (i j : ℕ) → i < j → j < n → bytesOrder (keyAt highs lows i) (keyAt highs lows j) ≡ Less
-
--- r is the first of the n rows that is not before the key k.
-pub record PlaceIs (highs lows : List ℕ) (n : ℕ) (k : List ℕ) (r : ℕ) : Type 0 where
-  pub inside : r ≤ n
-  pub below : (i : ℕ) → i < r → bytesOrder (keyAt highs lows i) k ≡ Less
-  pub rest : (i : ℕ) → r ≤ i → i < n → bytesOrder (keyAt highs lows i) k ≡ Less → ⊥
+use Rattle.sound.specs.Walk.{keyAt, halves, Rising, PlaceIs, Keyed}
 
 -- Halving: rows below `low` are before the key, rows from `high` on are not.
 pub record Halving (highs lows : List ℕ) (n : ℕ) (k : List ℕ) (low high : ℕ) : Type 0 where
@@ -103,13 +80,6 @@ halving-ends h le =
 -- Halving by the two halves of a series' key ends at its place.
 pub place-found : {highs lows : List ℕ} {n : ℕ} {k : Halves} {low high : ℕ} (s : Series) → k ≡ halvesOf s → Halving highs lows n (k .high ∷ k .low ∷ []) low high → high ≤ low → PlaceIs highs lows n (halves s) low
 place-found {highs} {lows} {n} {k} {low} s e h le = subst (λ (k : Halves). PlaceIs highs lows n (k .high ∷ k .low ∷ []) low) e (halving-ends h le)
-
--- The keys of rows, row by row. Here and below d is what a row behind the end would be, which is never read.
-pub record Keyed (d : Holding) (rows : List Holding) (n : ℕ) (highs lows : List ℕ) : Type 0 where
-  pub highs-long : n ≤ length highs
-  pub lows-long : n ≤ length lows
-  pub highs-are : (i : ℕ) → i < n → getD highs i 0 ≡ highKey (getD rows i d .series)
-  pub lows-are : (i : ℕ) → i < n → getD lows i 0 ≡ natureKey (getD rows i d .series .nature)
 
 -- The keys of no row.
 pub keyed-starts : (d : Holding) (rows : List Holding) (highs lows : List ℕ) → Keyed d rows 0 highs lows

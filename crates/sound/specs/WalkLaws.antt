@@ -29,16 +29,18 @@ use Rattle.series.specs.Checks.{goodSeries}
 use Rattle.pairing.specs.Sides.{firstSide, secondSide}
 use Rattle.rows.specs.declared.Holding.{Holding}
 use Rattle.rows.specs.declared.Pair.{Pair}
-use Rattle.rows.specs.Rows.{seriesRank, holdingRank, pairRank, sameSeries, newHolding, lotsOn, lessened, emptyHolding, emptyPair}
+use Rattle.rows.specs.Rows.{seriesRank, holdingRank, sameSeries, newHolding, lotsOn, lessened, emptyHolding}
 use Rattle.rows.specs.RowLaws.{lessened-rank}
 use Rattle.rows.specs.Book.{holdingIn}
 use Rattle.rules.specs.Lots.{Leg, firstLeg, secondLeg, total, covered}
 use Rattle.rules.specs.Rules.{goodHolding, goodPair}
-use Rattle.rules.specs.RuleLaws.{SoundRows, Counts, counts-are, GoodPair, pair-is}
+use Rattle.rules.specs.Facts.{SoundRows, Counts, GoodPair}
+use Rattle.rules.specs.RuleLaws.{counts-are, pair-is}
 use Rattle.rules.specs.LotLaws.{legsOf, takenFrom, takes, covers, afterLegs, taken-rank, new-lots, covers-is, after-is}
 use Rattle.sound.specs.declared.Taken.{Taken}
 use Rattle.sound.specs.Checked.{notSound, checkedAs}
-use Rattle.sound.specs.HalvingLaws.{noRow, halves, Rising, PlaceIs, Keyed, keyed-fewer, key-order, rising-keys}
+use Rattle.sound.specs.Walk.{noRow, halves, Rising, PlaceIs, Keyed, Walkable, takenLots}
+use Rattle.sound.specs.HalvingLaws.{keyed-fewer, key-order, rising-keys}
 
 rank-same : (h : Holding) (s : Series) → holdingRank h ≡ seriesRank s → sameSeries (h .series) s ≡ true
 unfolding sameSeries holdingRank
@@ -132,15 +134,6 @@ module _ {d : Holding} {rows : List Holding} {n : ℕ} {w : Bool} {v : List Hold
           (λ same e. absurd (clash (rank-same (getD free r d) (leg .series) same) (other lt)))
           (λ more e. more)
           refl)
-
--- What is known of the rows and pairs of a book before the walk.
-pub record Walkable (rows : List Holding) (held : ℕ) (pairs : List Pair) (paired : ℕ) : Type 0 where
-  pub holdings-sound : SoundRows emptyHolding goodHolding holdingRank held rows
-  pub pairs-sound : SoundRows emptyPair goodPair pairRank paired pairs
-
--- a row and a leg: whether it is the leg's row and has its lots, and what is left of it then
-abbrev pub takenLots : Holding → Series → Side → ℕ → Taken
-takenLots h s d n = record { enough = both (sameSeries (h .series) s) (leb n (lotsOn d h)); row = lessened d n h }
 
 -- The end of the walk: every leg has found its lots, and the rows are those with the free lots, then empty ones.
 pub walking-ends : {d : Holding} {rows : List Holding} {n : ℕ} {w : Bool} {v : List Holding} {free : List Holding} → SoundRows emptyHolding goodHolding holdingRank n rows → Walking d rows n w v [] free → (true ≡ w) × (free ≡ full 128 emptyHolding v)

@@ -3,7 +3,8 @@ use Prim.Native.Nat.{_-_}
 use native.Mathlib.Omega.{arith}
 use lib.ListN.{length, length-set}
 use borrow.Author.Needs.{needs}
-use Rattle.sound.specs.HalvingLaws.{noRow, Keyed, keyed-starts, keyed-next, keyed-fewer}
+use Rattle.sound.specs.Walk.{noRow, Keyed}
+use Rattle.sound.specs.HalvingLaws.{keyed-starts, keyed-next, keyed-fewer}
 use Rattle.sound.proofs.keys_of.Statement.{statement}
 use Rattle.sound.proofs.keys_of.Tie as tie
 
