@@ -4,14 +4,14 @@ use mathlib.Core.List.{List, [], _∷_, _++_}
 use Prim.Native.Nat.{ℕ, _+_, _-_}
 use lib.Dec.{leb, ltb}
 use Rattle.laws.specs.Truth.{pick, both, either}
-use Rattle.laws.specs.Checks.{Check, _unless_, firstFailing, allPass, orElse}
+use Rattle.laws.specs.Checks.{Check, _unless_, firstFailing, allPass}
 use Rattle.lists.specs.Sorted.{stands, kept}
 use Rattle.dates.specs.Calendar.{isDay}
 use Rattle.series.specs.declared.Series.{Series}
 use Rattle.series.specs.declared.Side.{Side}
 use Rattle.series.specs.declared.Side.the-variants.{Long, Short}
 use Rattle.series.specs.Checks.{seriesChecks}
-use Rattle.pairing.specs.Rules.{partsOf, pairChecks, pairNumber}
+use Rattle.pairing.specs.Rules.{partsOf, pairChecks}
 use Rattle.rows.specs.declared.Holding.{Holding}
 use Rattle.rows.specs.declared.Pair.{Pair}
 use Rattle.rows.specs.declared.Book.{Book}
@@ -89,11 +89,6 @@ pairingChecks b p =
     ++ (9 unless both (legFree b (firstLeg p)) (legFree b (secondLeg p))
     ∷ 11 unless either (stands pairRank (pairRank p) (pairsOf b)) (ltb (b .paired) 128)
     ∷ [])))))
-
--- the number of the checks behind those of the series, by what the tests of lots and room say
-abbrev pub pairRest : Pair → Bool → Bool → Bool → ℕ
-pairRest p first second room =
-    pick (countsFit (p .r1) (p .r2) (p .units)) (orElse (pairNumber (p .kind) (p .first) (p .second) (p .r1) (p .r2)) (pick (both first second) (pick room 0 11) 9)) 6
 
 unfoldable pub joined : Book → Pair → Book
 joined b p = withPairs b (kept pairRank noUnits (withUnits (unitsOf (pairsOf b) p + p .units) p) (pairsOf b))

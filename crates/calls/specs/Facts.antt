@@ -1,20 +1,21 @@
 -- What is known of a call that no check refuses: the facts behind its checks (document 01, "Numbers a call may answer").
 use mathlib.Core.Path.{_≡_}
-use mathlib.Core.Bool.{true}
+use mathlib.Core.Bool.{Bool, true}
 use mathlib.Core.List.{List}
 use Prim.Native.Nat.{ℕ, _+_, _-_, _≤_, _<_}
 use Rattle.lists.specs.Sorted.{stands}
 use Rattle.series.specs.declared.Series.{Series}
 use Rattle.series.specs.declared.Side.{Side}
 use Rattle.series.specs.Checks.{goodSeries}
-use Rattle.pairing.specs.Rules.{mayStand}
+use Rattle.pairing.specs.Rules.{mayStand, pairNumber}
 use Rattle.rows.specs.declared.Holding.{Holding}
 use Rattle.rows.specs.declared.Pair.{Pair}
 use Rattle.rows.specs.Rows.{seriesRank, pairRank, holdingRank}
 use Rattle.rules.specs.Lots.{Leg, firstLeg, secondLeg, tied, total, unitsOf, free}
 use Rattle.rules.specs.Rules.{countsFit}
 use lib.Dec.{ltb}
-use Rattle.laws.specs.Truth.{either}
+use Rattle.laws.specs.Truth.{pick, both, either}
+use Rattle.laws.specs.Checks.{orElse}
 use Rattle.dates.specs.Calendar.{isDay}
 use Rattle.rows.specs.declared.Book.{Book}
 use Rattle.rows.specs.Book.{holdingsOf, pairsOf}
@@ -65,3 +66,8 @@ pub record Turns (b : Book) (day : ℕ) : Type 0 where
   pub sound : Sound b
   pub day-is : isDay day ≡ true
   pub later : b .day < day
+
+-- The number of a pair's checks behind those of its series, by what the tests of lots and room say: what one private function answers.
+abbrev pub pairRest : Pair → Bool → Bool → Bool → ℕ
+pairRest p first second room =
+    pick (countsFit (p .r1) (p .r2) (p .units)) (orElse (pairNumber (p .kind) (p .first) (p .second) (p .r1) (p .r2)) (pick (both first second) (pick room 0 11) 9)) 6

@@ -35,10 +35,10 @@ use Rattle.rules.specs.Rules.{accountFits, isIdentity, lotsFit, countsFit, good
 use Rattle.rules.specs.RuleLaws.{sound-is, holdings-good, holdings-count, pairs-good, holding-is, pair-is, counts-are}
 use Rattle.sound.specs.declared.Checked.{Checked}
 use Rattle.sound.specs.Checked.{checkedAs, checkedBook, notSound}
-use Rattle.calls.specs.Calls.{outcome, pairRest, answered, makeChecks, bookChecks, heldOf, openChecks, closeChecks, legFree, pairingChecks, splitChecks, turnChecks}
+use Rattle.calls.specs.Calls.{outcome, answered, makeChecks, bookChecks, heldOf, openChecks, closeChecks, legFree, pairingChecks, splitChecks, turnChecks}
 use Rattle.calls.specs.HeldLaws.{held-on, opened-rank, closed-rank, lots-stand}
 use Rattle.calls.specs.PairedLaws.{units-stand}
-use Rattle.calls.specs.Facts.{Opens, Closes, Pairs, Splits}
+use Rattle.calls.specs.Facts.{Opens, Closes, Pairs, Splits, pairRest}
 
 -- An answer: refused with its number and the book handed in, or accepted with the new one.
 pub refused-with : (cs : List Check) (b new : Book) (n : ℕ) → n ≡ firstFailing cs → (n ≡ 0 → ⊥) → outcome n b ≡ answered cs b new
