@@ -19,7 +19,7 @@ use Rattle.rows.specs.declared.Holding.{Holding}
 use Rattle.rows.specs.declared.Pair.{Pair}
 use Rattle.rows.specs.declared.Book.{Book}
 use Rattle.rows.specs.Rows.{holdingRank, pairRank, emptyHolding, emptyPair}
-use Rattle.rows.specs.Book.{holdingsOf, pairsOf, holdingIn, withDay, bookOf, emptyBook, noBook}
+use Rattle.rows.specs.Book.{holdingsOf, pairsOf, holdingIn, pairIn, withDay, bookOf, emptyBook, noBook}
 use Rattle.rows.specs.BookLaws.{its-holdings, its-pairs, day-holdings, day-pairs}
 use Rattle.rules.specs.Lots.{tied, total, free, unitsOf}
 use Rattle.rules.specs.LotLaws.{new-lots}
@@ -78,6 +78,10 @@ module _ (account identity day : ℕ) (t : Series) (e : Side) where
   pub make-tied : tied (pairsOf (emptyBook account identity day)) t e ≡ 0
   unfolding emptyBook tied sumOf
   make-tied = ap (λ (l : List Pair). tied l t e) (its-pairs account identity day [] [])
+
+pub make-units : (account identity day : ℕ) (p : Pair) → unitsOf (pairsOf (emptyBook account identity day)) p ≡ 0
+unfolding emptyBook unitsOf pairIn look firstWhere
+make-units account identity day p = ap (λ (l : List Pair). unitsOf l p) (its-pairs account identity day [] [])
 
 -- Turn: the day alone.
 pub turn-sound : {b : Book} {day : ℕ} → Turns b day → Sound (withDay b day)

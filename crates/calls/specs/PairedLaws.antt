@@ -42,12 +42,12 @@ unfolding samePair
 one-pair p q e = are-same (pairRank p) (pairRank q) e
 
 -- Good series of one key are one series.
-one-series : (a b : Series) → goodSeries a ≡ true → goodSeries b ≡ true → key a ≡ key b → a ≡ b
+pub one-series : (a b : Series) → goodSeries a ≡ true → goodSeries b ≡ true → key a ≡ key b → a ≡ b
 unfolding seriesOrder
 one-series a b ga gb e = same-series a b ga gb (sym (is-same e))
 
 -- A good pair of the rank of p is p but for its units.
-same-but-units : (q p : Pair) → GoodPair q → goodSeries (p .first) ≡ true → goodSeries (p .second) ≡ true → pairRank q ≡ pairRank p → q ≡ withUnits (q .units) p
+pub same-but-units : (q p : Pair) → GoodPair q → goodSeries (p .first) ≡ true → goodSeries (p .second) ≡ true → pairRank q ≡ pairRank p → q ≡ withUnits (q .units) p
 unfolding pairRank
 same-but-units q p g gf gs e =
     let k = ap (λ (l : List ℕ). getD l 0 0) e in

@@ -21,7 +21,7 @@ use Rattle.rows.specs.declared.Pair.{Pair}
 use Rattle.rows.specs.declared.Book.{Book}
 use Rattle.rows.specs.Rows.{holdingRank, pairRank, emptyHolding, emptyPair, isEmptyHolding, isEmptyPair}
 use Rattle.rows.specs.RowLaws.{empty-holding, empty-pair, empty-holding-is, empty-pair-is, all-empty}
-use Rattle.rows.specs.Book.{holdingsOf, pairsOf}
+use Rattle.rows.specs.Book.{holdingsOf, pairsOf, bookOf}
 use Rattle.rules.specs.Lots.{covered}
 use Rattle.rules.specs.LotLaws.{covered-all, all-covered}
 use Rattle.rules.specs.Rules.{accountFits, isIdentity, ratioFits, lotsFit, countsFit, goodHolding, goodPair, rowsSound, holdingsSound, pairsSound, bookRules, soundBook}
@@ -184,3 +184,13 @@ pairs-order s = s .pairs-sound .in-order
 pub pairs-count : {b : Book} → Sound b → length (pairsOf b) ≡ b .paired
 unfolding pairsOf
 pairs-count s = s .pairs-sound .counted
+
+-- A sound book is made of its lists alone.
+pub book-is : (b : Book) → Sound b → b ≡ bookOf (b .account) (b .identity) (b .day) (holdingsOf b) (pairsOf b)
+unfolding bookOf holdingsOf pairsOf
+book-is b s =
+    let hs = s .holdings-sound .filled in
+    let held = sym (s .holdings-sound .counted) in
+    let ps = s .pairs-sound .filled in
+    let paired = sym (s .pairs-sound .counted) in
+    λ i. record { account = b .account; identity = b .identity; day = b .day; holdings = hs i; held = held i; pairs = ps i; paired = paired i }
