@@ -29,7 +29,7 @@ use Rattle.rules.specs.Lots.{firstLeg, secondLeg, ties, tiedBy, tied, total, fr
 use Rattle.rules.specs.Rules.{countsFit, goodHolding, goodPair, rowsSound, holdingsSound, pairsSound, bookRules, soundBook}
 use Rattle.calls.specs.declared.Outcome.{Outcome}
 use Rattle.calls.specs.Calls.{answered, makeChecks, makeAnswer, bookChecks, heldOf, openChecks, opened, openAnswer, closeChecks, closed, closeAnswer, legFree, pairingChecks, joined, pairAnswer, splitChecks, parted, splitAnswer, turnChecks, turnAnswer}
-use Rattle.history.specs.History.{Call, openLots, pairUnits, splitUnits, turnDay, step, checksOf, run, accepted}
+use Rattle.history.specs.History.{Call, openLots, closeLots, pairUnits, splitUnits, turnDay, step, checksOf, run, accepted}
 use Rattle.history.specs.Idle.{sample, october, november, spread, oneOpened, twoOpened, thenPaired, thenSplit, thenClosed, thenTurned}
 use Rattle.history.specs.Demand.{Demand3}
 use Rattle.history.specs.ProgramLaws.{run-then, one-book}
@@ -38,7 +38,8 @@ use Rattle.history.specs.ProgramLaws.{run-then, one-book}
 abbrev units : Book → ℕ
 units b = unitsOf (pairsOf b) spread
 
--- Each call of the history is accepted, and what it does is seen in the book: free lots, standing units, the day.
+-- Each call of the history is accepted, and what it does is seen in the book: free lots, standing units, the day. While the pair stands
+-- one of the two lots is tied, and closing both is refused by 9.
 pub record Seen : Type 0 where
   pub made : makeAnswer 7 (byte "1") 20190930 .number ≡ 0
   pub all-accepted : accepted step sample thenTurned ≡ thenTurned
@@ -49,7 +50,9 @@ pub record Seen : Type 0 where
   pub two-opened : free (run step sample twoOpened) november Short ≡ 1
   pub none-paired : units (run step sample twoOpened) ≡ 0
   pub then-paired : units (run step sample thenPaired) ≡ 1
+  pub then-tied : step (run step sample thenPaired) (closeLots october Long 2) .number ≡ 9
   pub then-split : units (run step sample thenSplit) ≡ 0
+  pub one-left : free (run step sample thenClosed) october Long ≡ 1
   pub then-closed : run step sample thenClosed .day ≡ 20190930
   pub then-turned : run step sample thenTurned .day ≡ 20191001
 
@@ -66,7 +69,9 @@ seen =
       two-opened = refl;
       none-paired = refl;
       then-paired = refl;
+      then-tied = refl;
       then-split = refl;
+      one-left = refl;
       then-closed = refl;
       then-turned = refl;
     }
