@@ -1,4 +1,5 @@
--- Demand 3 of document 01: what the accepted calls of a history come to. No book is looked into.
+-- Demand 3 (quoted in docs/PROMISES.md), "the lots opened less closed by accepted calls", units "paired less split", the day of "the last
+-- accepted turn": what the accepted calls of a history come to. No book is looked into.
 use mathlib.Core.List.{List, [], _∷_}
 use Prim.Native.Nat.{ℕ}
 use Rattle.laws.specs.Truth.{pick, both}

@@ -1,4 +1,5 @@
--- Demand 3 of document 01, whole: what a book holds is what its history says. HistoryLaws proves it of the calls.
+-- Demand 3 (quoted in docs/PROMISES.md; document 01, "How much each contract has to say", names it), whole: what a book holds is what
+-- its history says. HistoryLaws proves it of the calls.
 use mathlib.Core.Path.{_≡_}
 use mathlib.Core.Bool.{true, false}
 use mathlib.Core.List.{List}

@@ -1,4 +1,5 @@
--- Demand 3 of document 01: a history is a list of calls on one book, and a program is what answers them.
+-- Demand 3 (quoted in docs/PROMISES.md), "after any calls (open, close, pair, split, turn; refused ones among them)": a history is a
+-- list of calls on one book, and a program is what answers them. The checks are those of document 01, "Numbers a call may answer".
 use mathlib.Core.List.{List, [], _∷_}
 use Prim.Native.Nat.{ℕ}
 use lib.Dec.{eqb}

@@ -1,4 +1,4 @@
--- Demand 3 of document 01 proved: call by call, then for every list of calls.
+-- Demand 3 (specs/Demand) proved: call by call, then for every list of calls.
 use mathlib.Core.Path.{_≡_, refl, ap, sym, _∙_}
 use mathlib.Core.Bool.{Bool, true}
 use mathlib.Core.List.{List, [], _∷_}

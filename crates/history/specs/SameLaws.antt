@@ -1,4 +1,4 @@
--- Demand 3 of document 01, sameness: two sound books with the same account, identity, day, free lots and pairs are the same book. So
+-- Demand 3 (specs/Demand), its last sentence: two sound books with the same account, identity, day, free lots and pairs are the same book. So
 -- whatever is worked from the one is worked from the other.
 use mathlib.Core.Path.{_≡_, refl, ap, sym, _∙_}
 use mathlib.Core.Bool.{true}
