@@ -29,7 +29,7 @@ use Rattle.calls.specs.HeldLaws.{lotsOf, opened-rank, closed-rank, lots-
 use Rattle.calls.specs.Facts.{Opens, Closes}
 
 -- A sound book with other holdings, which cover what its pairs tie.
-sound-holdings : (b : Book) (hs : List Holding) → Sound b → length hs ≤ 128 → everyLine goodHolding hs ≡ true → ascending holdingRank hs ≡ true → ((s : Series) (d : Side) → tied (pairsOf b) s d ≤ total hs s d) → Sound (withHoldings b hs)
+pub sound-holdings : (b : Book) (hs : List Holding) → Sound b → length hs ≤ 128 → everyLine goodHolding hs ≡ true → ascending holdingRank hs ≡ true → ((s : Series) (d : Side) → tied (pairsOf b) s d ≤ total hs s d) → Sound (withHoldings b hs)
 unfolding withHoldings pairsOf
 sound-holdings b hs s few g a never =
     record {

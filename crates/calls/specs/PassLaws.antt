@@ -98,7 +98,7 @@ after-two b s t ds e =
     let k = pass-both (seriesChecks t) ds (h .2) in
     (h .0, h .1, k .0, k .1)
 
-leg-is-free : (b : Book) (leg : Leg) → legFree b leg ≡ true → finds (holdingsOf b) (pairsOf b) leg
+pub leg-is-free : (b : Book) (leg : Leg) → legFree b leg ≡ true → finds (holdingsOf b) (pairsOf b) leg
 unfolding legFree free
 leg-is-free b leg e = leb-true (leg .lots) (total (holdingsOf b) (leg .series) (leg .side) - tied (pairsOf b) (leg .series) (leg .side)) e
 

@@ -34,7 +34,7 @@ unfolding pairRank
 units-rank n p = refl
 
 -- A sound book with other pairs, which its holdings cover.
-sound-pairs : (b : Book) (ps : List Pair) → Sound b → length ps ≤ 128 → everyLine goodPair ps ≡ true → ascending pairRank ps ≡ true → ((s : Series) (d : Side) → tied ps s d ≤ total (holdingsOf b) s d) → Sound (withPairs b ps)
+pub sound-pairs : (b : Book) (ps : List Pair) → Sound b → length ps ≤ 128 → everyLine goodPair ps ≡ true → ascending pairRank ps ≡ true → ((s : Series) (d : Side) → tied ps s d ≤ total (holdingsOf b) s d) → Sound (withPairs b ps)
 unfolding withPairs holdingsOf
 sound-pairs b ps s few g a never =
     record {

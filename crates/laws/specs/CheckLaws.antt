@@ -1,5 +1,5 @@
 -- Laws of checks: accepted exactly when none fails, what a refusal says, and one list of checks after another.
-use mathlib.Core.Path.{_≡_, refl, ap, subst}
+use mathlib.Core.Path.{_≡_, refl, ap, _∙_, subst}
 use mathlib.Core.Bool.{Bool, true, false}
 use mathlib.Core.List.{List, [], _∷_, _++_}
 use Prim.Native.Nat.{ℕ, zero, suc, _<_}
@@ -7,7 +7,7 @@ use native.Mathlib.Omega.{arith}
 use lib.Dec.{ltb, eqb}
 use borrow.Author.Tests.{ltb-true, eqb-true, eqb-false}
 use Rattle.laws.specs.Truth.{pick, both}
-use Rattle.laws.specs.TruthLaws.{both-true, clash}
+use Rattle.laws.specs.TruthLaws.{both-true, both-hold, clash}
 use Rattle.laws.specs.Checks.{Check, _unless_, firstFailing, allPass, numbered, orElse}
 
 -- Accepted exactly when none fails.
@@ -38,6 +38,9 @@ by-number cs k = go (eqb (firstFailing cs) 0) (allPass cs) refl refl
     go false false e f = refl
     go true false e f = absurd (clash (accepted cs k (eqb-true (firstFailing cs) 0 e)) f)
     go false true e f = absurd (eqb-false (firstFailing cs) 0 e (none-fails cs f))
+
+pub some-fails : (cs : List Check) → numbered cs ≡ true → allPass cs ≡ false → 0 < firstFailing cs
+some-fails cs k e = let h = eqb-false (firstFailing cs) 0 (by-number cs k ∙ e) in omega arith
 
 -- What a refusal says: the checks before passed, and this one, with this number, failed.
 pub record Refused (cs : List Check) (n : ℕ) : Type 0 where
@@ -89,7 +92,7 @@ first-of-two (c ∷ cs) ds k =
     let h = both-true (ltb 0 (c .number)) (numbered cs) k in
     rw (first-of-two cs ds (h .1), firstFailing) (one-more (c .number) (c .passes) (firstFailing cs) (firstFailing ds) (ltb-true 0 (c .number) (h .0)))
 
--- And none of both fails where none of each does.
+-- None of both fails exactly where none of each does.
 pub pass-both : (cs ds : List Check) → allPass (cs ++ ds) ≡ true → (allPass cs ≡ true) × (allPass ds ≡ true)
 unfolding allPass
 pass-both [] ds e = (refl, e)
@@ -97,3 +100,10 @@ pass-both (c ∷ cs) ds e =
     let h = both-true (c .passes) (allPass (cs ++ ds)) e in
     let k = pass-both cs ds (h .1) in
     (rw (h .0) (k .0), k .1)
+
+pub pass-joined : (cs ds : List Check) → allPass cs ≡ true → allPass ds ≡ true → allPass (cs ++ ds) ≡ true
+unfolding allPass
+pass-joined [] ds e f = f
+pass-joined (c ∷ cs) ds e f =
+    let h = both-true (c .passes) (allPass cs) e in
+    both-hold (h .0) (pass-joined cs ds (h .1) f)

@@ -1,13 +1,13 @@
 -- Laws of the search of a table: those by which a loop finds the line, and what is known of what is found.
 use mathlib.Core.Path.{_≡_, refl}
 use mathlib.Core.Bool.{Bool, true, false}
-use mathlib.Core.List.{List, [], _∷_}
+use mathlib.Core.List.{List, [], _∷_, _++_}
 use Prim.Native.Nat.{ℕ, zero, suc, _+_, _≤_, _<_}
 use native.Mathlib.Omega.{arith}
 use native.Mathlib.Numerals.{add-one}
 use lib.ListN.{getD, drop, length, drop-of-length-le}
 use lib.Seq.{drop-cons}
-use Rattle.laws.specs.TruthLaws.{both-true, picked}
+use Rattle.laws.specs.TruthLaws.{both-true, both-hold, picked}
 use Rattle.laws.specs.Search.{firstWhere, everyLine}
 
 -- A loop over a table has come to line i, and what it seeks is w.
@@ -51,3 +51,23 @@ unfolding everyLine
 every-at test [] i d e h = absurd (omega arith)
 every-at test (l ∷ ls) zero d e h = both-true (test l) (everyLine test ls) e .0
 every-at test (l ∷ ls) (suc i) d e h = every-at test ls i d (both-true (test l) (everyLine test ls) e .1) (omega arith)
+
+pub every-weaker : {A : Type 0} (test weak : A → Bool) → ((x : A) → test x ≡ true → weak x ≡ true) → (ls : List A) → everyLine test ls ≡ true → everyLine weak ls ≡ true
+unfolding everyLine
+every-weaker test weak h [] e = refl
+every-weaker test weak h (l ∷ ls) e =
+    let t = both-true (test l) (everyLine test ls) e in
+    both-hold (h l (t .0)) (every-weaker test weak h ls (t .1))
+
+-- A test holds of two tables as one where it holds of each, and of the one behind where it holds of both.
+pub every-joined : {A : Type 0} (test : A → Bool) (ls ms : List A) → everyLine test ls ≡ true → everyLine test ms ≡ true → everyLine test (ls ++ ms) ≡ true
+unfolding everyLine
+every-joined test [] ms e f = f
+every-joined test (l ∷ ls) ms e f =
+    let t = both-true (test l) (everyLine test ls) e in
+    both-hold (t .0) (every-joined test ls ms (t .1) f)
+
+pub every-behind : {A : Type 0} (test : A → Bool) (ls ms : List A) → everyLine test (ls ++ ms) ≡ true → everyLine test ms ≡ true
+unfolding everyLine
+every-behind test [] ms e = e
+every-behind test (l ∷ ls) ms e = every-behind test ls ms (both-true (test l) (everyLine test (ls ++ ms)) e .1)

@@ -3,7 +3,7 @@
 use mathlib.Core.Path.{_≡_, refl, ap, sym, _∙_, subst}
 use mathlib.Core.Logic.{⊎-elim}
 use mathlib.Core.Bool.{Bool, true, false}
-use mathlib.Core.List.{List, [], _∷_, map}
+use mathlib.Core.List.{List, [], _∷_, _++_, map}
 use Prim.Native.Nat.{ℕ, zero, suc, _+_, _<_, _≤_}
 use native.Mathlib.Omega.{arith}
 use lib.Dec.{ltb}
@@ -348,3 +348,22 @@ module _ {A : Type 0} (rank : A → List ℕ) where
   before-at (x ∷ l) i zero d a lt h = absurd (omega arith)
   before-at (x ∷ l) zero (suc j) d a lt h = after-at (rank x) l j d a (omega arith)
   before-at (x ∷ l) (suc i) (suc j) d a lt h = before-at l i j d (ascending-rest rank (rank x) l a) (omega arith) (omega arith)
+
+  -- Rows in front of others in order are in order.
+  front-after : (p : List ℕ) (l m : List A) → ascendingFrom rank p (l ++ m) ≡ true → ascendingFrom rank p l ≡ true
+  unfolding ascendingFrom
+  front-after p [] m a = refl
+  front-after p (x ∷ l) m a =
+      let t = both-true (isLess (bytesOrder p (rank x))) _ a in
+      both-hold (t .0) (front-after (rank x) l m (t .1))
+
+  pub front-ascends : (l m : List A) → ascending rank (l ++ m) ≡ true → ascending rank l ≡ true
+  unfolding ascending
+  front-ascends [] m a = refl
+  front-ascends (x ∷ l) m a = front-after (rank x) l m a
+
+-- A sum of rows and others behind them is that of both.
+pub sum-joined : {A : Type 0} (f : A → ℕ) (l m : List A) → sumOf f (l ++ m) ≡ sumOf f l + sumOf f m
+unfolding sumOf
+sum-joined f [] m = omega arith
+sum-joined f (x ∷ l) m = let h = sum-joined f l m in omega arith

@@ -1,7 +1,8 @@
 -- Laws of a book's lists: what a book with other holdings, pairs or day holds.
-use mathlib.Core.Path.{_≡_, refl}
-use mathlib.Core.List.{List}
+use mathlib.Core.Path.{_≡_, refl, ap}
+use mathlib.Core.List.{List, []}
 use Prim.Native.Nat.{ℕ}
+use lib.ListN.{take}
 use Rattle.lists.specs.PlaceLaws.{take-full}
 use Rattle.rows.specs.declared.Holding.{Holding}
 use Rattle.rows.specs.declared.Pair.{Pair}
@@ -40,3 +41,8 @@ day-holdings b day = refl
 pub day-pairs : (b : Book) (day : ℕ) → pairsOf (withDay b day) ≡ pairsOf b
 unfolding pairsOf withDay
 day-pairs b day = refl
+
+-- A book that counts no pairs holds none.
+pub none-paired : (b : Book) → b .paired ≡ 0 → pairsOf b ≡ []
+unfolding pairsOf
+none-paired b e = ap (λ (n : ℕ). take n (b .pairs)) e

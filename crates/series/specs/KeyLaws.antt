@@ -9,17 +9,16 @@ use lib.ListN.{getD}
 use Rattle.laws.specs.declared.Order.{Order}
 use Rattle.laws.specs.declared.Order.the-variants.{Less, Same}
 use Rattle.laws.specs.TruthLaws.{both-true, within-true}
-use Rattle.laws.specs.Checks.{allPass}
 use Rattle.laws.specs.Order.{orderOf, thenBy, bytesOrder, join}
 use Rattle.laws.specs.OrderLaws.{join-order, both-same, then-by-then, then-same, same-text, is-less, is-same, less-says, same-says, split, three-order}
-use Rattle.dates.specs.CalendarLaws.{day-fits}
 use Rattle.series.specs.declared.Series.{Series}
 use Rattle.codes.specs.declared.Class.{Class}
 use Rattle.series.specs.declared.Nature.{Nature}
 use Rattle.series.specs.declared.Nature.the-variants.{Future, Call, Put}
 use Rattle.codes.specs.Codes.{isOptionClass}
 use Rattle.codes.specs.CodeLaws.{ThreeBytes, known-three}
-use Rattle.series.specs.Checks.{suits, strikeFits, classOf, seriesChecks, goodSeries}
+use Rattle.series.specs.Checks.{suits, strikeFits, classOf, goodSeries}
+use Rattle.series.specs.CheckLaws.{series-parts, series-date}
 use Rattle.series.specs.Natures.{letterOf, strikeOf}
 use Rattle.series.specs.Key.{partsOrder, codeKey, natureKey, highKey, key, seriesOrder}
 
@@ -34,19 +33,17 @@ pub record Fits (s : Series) : Type 0 where
   pub date : s .date < 2 ^ 32
   pub strike : strikeOf (s .nature) < 2 ^ 32
 
-suited-strike : (c : Class) (n : Nature) → suits c n ≡ true → strikeOf n ≤ 100000000
+pub suited-strike : (c : Class) (n : Nature) → suits c n ≡ true → strikeOf n ≤ 100000000
 suited-strike c Future e = omega arith
 suited-strike c (Call k) e = within-true 1 100000000 k (both-true (isOptionClass c) (strikeFits k) e .1) .1
 suited-strike c (Put k) e = within-true 1 100000000 k (both-true (isOptionClass c) (strikeFits k) e .1) .1
 
 pub good-fits : (s : Series) → goodSeries s ≡ true → Fits s
-unfolding goodSeries seriesChecks allPass classOf
+unfolding classOf
 good-fits s e =
-    let h = both-true _ _ e in
-    let k = both-true _ _ (h .1) in
-    let l = both-true _ _ (k .1) in
-    let d = day-fits (s .date) (k .0) in
-    let p = suited-strike (classOf s) (s .nature) (l .0) in
+    let h = series-parts s e in
+    let d = series-date s e in
+    let p = suited-strike (classOf s) (s .nature) (h .2) in
     record { code = known-three (s .code) (h .0); date = omega arith; strike = omega arith }
 
 letter-fits : (n : Nature) → letterOf n < 256

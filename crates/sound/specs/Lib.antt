@@ -1,5 +1,5 @@
 pub mod Checked
 pub mod Walk
-pub mod HalvingLaws
+pub mod KeyedLaws
 pub mod WalkLaws
 pub mod CheckedLaws

@@ -4,24 +4,18 @@ use mathlib.Core.Path.{_≡_}
 use mathlib.Core.List.{List, [], _∷_}
 use Prim.Native.Nat.{ℕ, _<_, _≤_}
 use lib.ListN.{getD, length}
-use Rattle.laws.specs.declared.Order.the-variants.{Less}
-use Rattle.laws.specs.Order.{bytesOrder}
-use Rattle.series.specs.declared.Series.{Series}
-use Rattle.series.specs.declared.Nature.the-variants.{Future}
-use Rattle.series.specs.Key.{highKey, natureKey}
-use Rattle.rows.specs.declared.Holding.{Holding}
-use Rattle.rows.specs.Rows.{holdingRank, pairRank, sameSeries, lotsOn, lessened, emptyHolding, emptyPair}
-use Rattle.rules.specs.Rules.{goodHolding, goodPair}
 use lib.Dec.{leb}
 use Rattle.laws.specs.Truth.{both}
+use Rattle.series.specs.declared.Series.{Series}
+use Rattle.series.specs.declared.Nature.the-variants.{Future}
 use Rattle.series.specs.declared.Side.{Side}
+use Rattle.series.specs.Key.{highKey, natureKey}
+use Rattle.rows.specs.declared.Holding.{Holding}
 use Rattle.rows.specs.declared.Pair.{Pair}
+use Rattle.rows.specs.Rows.{holdingRank, pairRank, sameSeries, lotsOn, lessened, emptyHolding, emptyPair}
+use Rattle.rules.specs.Rules.{goodHolding, goodPair}
 use Rattle.rules.specs.Facts.{SoundRows}
 use Rattle.sound.specs.declared.Taken.{Taken}
-
--- the key of the row i, half by half
-abbrev pub keyAt : List ℕ → List ℕ → ℕ → List ℕ
-keyAt highs lows i = getD highs i 0 ∷ getD lows i 0 ∷ []
 
 -- what a row behind the end would be
 abbrev pub noRow : Holding
@@ -29,18 +23,6 @@ noRow = record { series = record { code = []; date = 0; nature = Future }; long 
 
 abbrev pub halves : Series → List ℕ
 halves s = highKey s ∷ natureKey (s .nature) ∷ []
-
--- Keys of n rows in order, which can be searched by halving.
-pub record Rising (highs lows : List ℕ) (n : ℕ) : Type 0 where
-  pub highs-long : n ≤ length highs
-  pub lows-long : n ≤ length lows
-  pub rising : (i j : ℕ) → i < j → j < n → bytesOrder (keyAt highs lows i) (keyAt highs lows j) ≡ Less
-
--- r is the first of the n rows that is not before the key k.
-pub record PlaceIs (highs lows : List ℕ) (n : ℕ) (k : List ℕ) (r : ℕ) : Type 0 where
-  pub inside : r ≤ n
-  pub below : (i : ℕ) → i < r → bytesOrder (keyAt highs lows i) k ≡ Less
-  pub rest : (i : ℕ) → r ≤ i → i < n → bytesOrder (keyAt highs lows i) k ≡ Less → ⊥
 
 -- The keys of rows, row by row. Here and below d is what a row behind the end would be, which is never read.
 pub record Keyed (d : Holding) (rows : List Holding) (n : ℕ) (highs lows : List ℕ) : Type 0 where

@@ -6,10 +6,10 @@ use Prim.Native.Nat.{ℕ, _+_, _-_, _*_, _<_, _≤_}
 use native.Mathlib.Omega.{arith}
 use native.Mathlib.Decide.{decLt}
 use native.Mathlib.Numerals.{add-one}
+use borrow.Author.Tests.{le-leb, lt-leb, leb-true, leb-false}
 use lib.Dec.{leb}
 use lib.ListN.{getD, length, take, drop, set, replicate, length-take, length-set, take-append-drop, drop-of-length-le}
 use lib.Seq.{drop-cons, getD-take, getD-set-same, getD-set-other, take-set-lt, drop-set-lt}
-use borrow.Author.Tests.{le-leb, lt-leb, leb-true, leb-false}
 use Rattle.laws.specs.declared.Order.{Order}
 use Rattle.laws.specs.declared.Order.the-variants.{Less}
 use Rattle.laws.specs.Truth.{both}
@@ -37,10 +37,11 @@ use Rattle.rules.specs.Rules.{goodHolding, goodPair}
 use Rattle.rules.specs.Facts.{SoundRows, Counts, GoodPair}
 use Rattle.rules.specs.RuleLaws.{counts-are, pair-is}
 use Rattle.rules.specs.LotLaws.{legsOf, takenFrom, takes, covers, afterLegs, taken-rank, new-lots, covers-is, after-is}
+use Rattle.halving.specs.Halving.{Rising, PlaceIs}
 use Rattle.sound.specs.declared.Taken.{Taken}
 use Rattle.sound.specs.Checked.{notSound, checkedAs}
-use Rattle.sound.specs.Walk.{noRow, halves, Rising, PlaceIs, Keyed, Walkable, takenLots}
-use Rattle.sound.specs.HalvingLaws.{keyed-fewer, key-order, rising-keys}
+use Rattle.sound.specs.Walk.{noRow, halves, Keyed, Walkable, takenLots}
+use Rattle.sound.specs.KeyedLaws.{keyed-fewer, key-order, rising-keys}
 
 rank-same : (h : Holding) (s : Series) → holdingRank h ≡ seriesRank s → sameSeries (h .series) s ≡ true
 unfolding sameSeries holdingRank
@@ -162,7 +163,7 @@ abbrev pub noPair : Pair
 noPair = record { kind = 0; first = noRow .series; second = noRow .series; r1 = 0; r2 = 0; units = 0 }
 
 -- Sound rows fill their array.
-rows-long : {A : Type 0} {empty : A} {good : A → Bool} {rank : A → List ℕ} {n : ℕ} {rows : List A} → SoundRows empty good rank n rows → length rows ≡ 128
+pub rows-long : {A : Type 0} {empty : A} {good : A → Bool} {rank : A → List ℕ} {n : ℕ} {rows : List A} → SoundRows empty good rank n rows → length rows ≡ 128
 rows-long {A} {empty} {good} {rank} {n} {rows} r =
     let few = r .few in
     let counted = r .counted in

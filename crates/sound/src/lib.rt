@@ -1,14 +1,13 @@
 // Whether a book is sound, and its free lots: leg after leg of the pairs takes its lots from its row, found by halving.
 ghost use mathlib.Core.Path.{_≡_};
-ghost use mathlib.Core.List.{[], _∷_};
 ghost use lib.ListN.{take};
 ghost use Rattle.laws.specs.Truth.{both};
-ghost use Rattle.laws.specs.Order.{isLess, bytesOrder};
 ghost use Rattle.dates.specs.Calendar.{isDay};
 ghost use Rattle.rules.specs.Lots.{covered};
 ghost use Rattle.rules.specs.Rules.{accountFits, isIdentity, soundBook};
 ghost use Rattle.sound.specs.Checked.{notSound, checkedAs, checkedBook};
-ghost use Rattle.sound.specs.Walk.{noRow, halves, Rising, PlaceIs, Keyed, Walkable, takenLots};
+ghost use Rattle.halving.specs.Halving.{Rising, PlaceIs};
+ghost use Rattle.sound.specs.Walk.{noRow, halves, Keyed, Walkable, takenLots};
 use rows::Book;
 use rows::Holding;
 use rows::Pair;
@@ -50,30 +49,13 @@ fn keys_of(rows: [Holding; 128]) -> Keys
     Keys { highs, lows }
 }
 
-// Whether one key is before another.
-fn is_before(high: u64, low: u64, other: u64, lower: u64) -> bool
-    ensures { λ r. ⌜ r ≡ isLess (bytesOrder (high ∷ low ∷ []) (other ∷ lower ∷ [])) ⌝ }
-{
-    laws::is_less(laws::then_by(laws::order_of(high, other), laws::order_of(low, lower)))
-}
-
 // The first of the `held` rows whose key is not before that of the series, by halving.
 fn place_of(highs: &[u64], lows: &[u64], held: usize, s: Series) -> usize
     requires { ⌜ Rising (now highs) (now lows) held ⌝ }
     ensures { λ r. ⌜ PlaceIs (now (highs .entry)) (now (lows .entry)) held (halves s) r ⌝ }
 {
     let k = series::halves_of(s);
-    let mut low: usize = 0;
-    let mut high = held;
-    while low < high {
-        let mid = low + (high - low) / 2;
-        if is_before(highs[mid], lows[mid], k.high, k.low) {
-            low = mid + 1;
-            continue;
-        }
-        high = mid;
-    }
-    low
+    halving::place_of(highs, lows, held, k.high, k.low)
 }
 
 fn take_lots(h: Holding, s: Series, side: Side, lots: u32) -> Taken

@@ -4,7 +4,7 @@ use native.Mathlib.Omega.{arith}
 use lib.ListN.{length, length-set}
 use borrow.Author.Needs.{needs}
 use Rattle.sound.specs.Walk.{noRow, Keyed}
-use Rattle.sound.specs.HalvingLaws.{keyed-starts, keyed-next, keyed-fewer}
+use Rattle.sound.specs.KeyedLaws.{keyed-starts, keyed-next, keyed-fewer}
 use Rattle.sound.proofs.keys_of.Statement.{statement}
 use Rattle.sound.proofs.keys_of.Tie as tie
 

@@ -1,8 +1,8 @@
 use borrow.Author.Needs.{needs}
 use Rattle.laws.specs.OrderLaws.{then-same}
 use Rattle.laws.specs.Order.{bytesOrder}
-use Rattle.sound.proofs.is_before.Statement.{statement}
-use Rattle.sound.proofs.is_before.Tie as tie
+use Rattle.halving.proofs.is_before.Statement.{statement}
+use Rattle.halving.proofs.is_before.Tie as tie
 
 returns : tie.Need-returns
 unfolding bytesOrder

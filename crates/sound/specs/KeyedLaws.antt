@@ -1,7 +1,6 @@
--- Laws of finding a series among rows in order by halving: the keys of the rows, half by half, and the place where they stop being
--- before the key.
+-- Laws of finding a series among rows in order: the keys of the rows, half by half, rise, and halving finds the place of the series.
 use mathlib.Core.Path.{_≡_, ap, sym, _∙_, subst}
-use mathlib.Core.Bool.{Bool, true, false}
+use mathlib.Core.Bool.{true}
 use mathlib.Core.List.{List, [], _∷_}
 use Prim.Native.Nat.{ℕ, _+_, _<_, _≤_}
 use native.Mathlib.Omega.{arith}
@@ -9,11 +8,10 @@ use native.Mathlib.Decide.{decLt}
 use lib.ListN.{getD, length, take, set, length-take, length-set}
 use lib.Seq.{getD-take, getD-set-same, getD-set-other}
 use Rattle.laws.specs.declared.Order.the-variants.{Less}
-use Rattle.laws.specs.TruthLaws.{both-true, clash}
+use Rattle.laws.specs.TruthLaws.{both-true}
 use Rattle.laws.specs.Search.{everyLine}
 use Rattle.laws.specs.SearchLaws.{every-at}
-use Rattle.laws.specs.Order.{isLess, bytesOrder}
-use Rattle.laws.specs.OrderLaws.{text-before, is-less-says}
+use Rattle.laws.specs.Order.{bytesOrder}
 use Rattle.lists.specs.Sorted.{ascending}
 use Rattle.lists.specs.SortedLaws.{before-at}
 use Rattle.series.specs.declared.Series.{Series}
@@ -25,61 +23,13 @@ use Rattle.rows.specs.declared.Holding.{Holding}
 use Rattle.rows.specs.Rows.{seriesRank, holdingRank}
 use Rattle.rows.specs.RowLaws.{rank-order}
 use Rattle.rules.specs.Rules.{goodHolding}
-use Rattle.sound.specs.Walk.{keyAt, halves, Rising, PlaceIs, Keyed}
+use Rattle.halving.specs.Halving.{keyAt, placeOf, Rising, PlaceIs}
+use Rattle.halving.specs.HalvingLaws.{place-is}
+use Rattle.sound.specs.Walk.{halves, Keyed}
 
--- Halving: rows below `low` are before the key, rows from `high` on are not.
-pub record Halving (highs lows : List ℕ) (n : ℕ) (k : List ℕ) (low high : ℕ) : Type 0 where
-  pub apart : low ≤ high
-  pub inside : high ≤ n
-  pub below : (i : ℕ) → i < low → bytesOrder (keyAt highs lows i) k ≡ Less
-  pub rest : (i : ℕ) → high ≤ i → i < n → bytesOrder (keyAt highs lows i) k ≡ Less → ⊥
-
-pub halving-starts : (highs lows : List ℕ) (n : ℕ) (k : List ℕ) → Halving highs lows n k 0 n
-halving-starts highs lows n k = record { apart = omega arith; inside = omega arith; below = λ i lt. absurd (omega arith); rest = λ i le lt. absurd (omega arith) }
-
-module _ {highs lows : List ℕ} {n : ℕ} {k : List ℕ} {low high : ℕ} (s : Rising highs lows n) (h : Halving highs lows n k low high) (mid : ℕ) (from : low ≤ mid) (to : mid < high) where
-  pub halving-up : bytesOrder (keyAt highs lows mid) k ≡ Less → Halving highs lows n k (mid + 1) high
-  halving-up e =
-      record {
-        apart = omega arith;
-        inside = h .inside;
-        below = λ i lt. go i lt (decLt i mid);
-        rest = h .rest;
-      }
-    where
-      go : (i : ℕ) → i < mid + 1 → Dec (i < mid) → bytesOrder (keyAt highs lows i) k ≡ Less
-      go i lt (yes q) = let top = h .inside in text-before (keyAt highs lows i) (keyAt highs lows mid) k (s .rising i mid q (omega arith)) e
-      go i lt (no q) = let is : mid ≡ i = omega arith in subst (λ (j : ℕ). bytesOrder (keyAt highs lows j) k ≡ Less) is e
-
-  pub halving-down : (bytesOrder (keyAt highs lows mid) k ≡ Less → ⊥) → Halving highs lows n k low mid
-  halving-down e =
-      record {
-        apart = omega arith;
-        inside = let top = h .inside in omega arith;
-        below = h .below;
-        rest = λ i le lt. go i le lt (decLt mid i);
-      }
-    where
-      go : (i : ℕ) → mid ≤ i → i < n → Dec (mid < i) → bytesOrder (keyAt highs lows i) k ≡ Less → ⊥
-      go i le lt (yes q) f = e (text-before (keyAt highs lows mid) (keyAt highs lows i) k (s .rising mid i q lt) f)
-      go i le lt (no q) f = let is : i ≡ mid = omega arith in e (subst (λ (j : ℕ). bytesOrder (keyAt highs lows j) k ≡ Less) is f)
-
-  -- The test of the row in the middle moves the low end or the high one.
-  pub tested-before : {r : Bool} → r ≡ isLess (bytesOrder (keyAt highs lows mid) k) → r ≡ true → Halving highs lows n k (mid + 1) high
-  tested-before e t = halving-up (is-less-says _ (sym e ∙ t))
-
-  pub tested-behind : {r : Bool} → r ≡ isLess (bytesOrder (keyAt highs lows mid) k) → r ≡ false → Halving highs lows n k low mid
-  tested-behind e f = halving-down (λ q. clash (e ∙ ap isLess q) f)
-
-pub halving-ends : {highs lows : List ℕ} {n : ℕ} {k : List ℕ} {low high : ℕ} → Halving highs lows n k low high → high ≤ low → PlaceIs highs lows n k low
-halving-ends h le =
-    let up = h .apart in
-    let top = h .inside in
-    record { inside = omega arith; below = h .below; rest = λ i ge lt. h .rest i (omega arith) lt }
-
--- Halving by the two halves of a series' key ends at its place.
-pub place-found : {highs lows : List ℕ} {n : ℕ} {k : Halves} {low high : ℕ} (s : Series) → k ≡ halvesOf s → Halving highs lows n (k .high ∷ k .low ∷ []) low high → high ≤ low → PlaceIs highs lows n (halves s) low
-place-found {highs} {lows} {n} {k} {low} s e h le = subst (λ (k : Halves). PlaceIs highs lows n (k .high ∷ k .low ∷ []) low) e (halving-ends h le)
+-- The place that halving comes to by the two halves of a series' key is its place.
+pub place-found : {highs lows : List ℕ} {n : ℕ} {k : Halves} {r : ℕ} (s : Series) → Rising highs lows n → k ≡ halvesOf s → r ≡ placeOf highs lows n (k .high ∷ k .low ∷ []) → PlaceIs highs lows n (halves s) r
+place-found {highs} {lows} {n} {k} s rising e is = rw (is, e) (place-is (halves s) rising)
 
 -- The keys of no row.
 pub keyed-starts : (d : Holding) (rows : List Holding) (highs lows : List ℕ) → Keyed d rows 0 highs lows

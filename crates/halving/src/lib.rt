@@ -1,0 +1,36 @@
+// Finding a key among keys that rise, by halving. A key is two numbers, the higher one first.
+ghost use mathlib.Core.Path.{_≡_};
+ghost use mathlib.Core.List.{[], _∷_};
+ghost use Prim.Native.Nat.{min};
+ghost use Rattle.laws.specs.Order.{isLess, bytesOrder};
+ghost use Rattle.halving.specs.Halving.{placeOf};
+
+fn lower(x: usize, y: usize) -> usize
+    ensures { λ r. ⌜ r ≡ min x y ⌝ }
+{
+    if x < y { x } else { y }
+}
+
+// Whether one key is before another.
+fn is_before(high: u64, low: u64, other: u64, lower: u64) -> bool
+    ensures { λ r. ⌜ r ≡ isLess (bytesOrder (high ∷ low ∷ []) (other ∷ lower ∷ [])) ⌝ }
+{
+    laws::is_less(laws::then_by(laws::order_of(high, other), laws::order_of(low, lower)))
+}
+
+// The place among the first `count` keys where they stop being before the key, if they rise.
+pub fn place_of(highs: &[u64], lows: &[u64], count: usize, high: u64, low: u64) -> usize
+    ensures { λ r. ⌜ r ≡ placeOf (now (highs .entry)) (now (lows .entry)) count (high ∷ low ∷ []) ⌝ }
+{
+    let mut from: usize = 0;
+    let mut to = lower(count, lower(highs.len(), lows.len()));
+    while from < to {
+        let mid = from + (to - from) / 2;
+        if is_before(highs[mid], lows[mid], high, low) {
+            from = mid + 1;
+            continue;
+        }
+        to = mid;
+    }
+    from
+}

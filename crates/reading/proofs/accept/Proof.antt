@@ -1,0 +1,11 @@
+use mathlib.Core.Path.{refl}
+use Rattle.reading.specs.Reading.{accepted}
+use Rattle.reading.proofs.accept.Statement.{statement}
+use Rattle.reading.proofs.accept.Tie as tie
+
+returns : tie.Need-returns
+unfolding accepted
+returns c = refl
+
+pub accept-spec : {M : Type 1} → statement M
+accept-spec = tie.close (tie.spec returns)

@@ -1,0 +1,126 @@
+-- What the parts of the reader ask and answer: a line's letter and form, its number, and where free lots stand (document 01, "Text").
+use mathlib.Core.Bool.{Bool, not}
+use mathlib.Core.List.{List, [], _∷_, _++_}
+use Prim.Native.Nat.{ℕ, _+_, _-_, _*_, _%_}
+use lib.Dec.{leb, ltb, eqb}
+use lib.ListN.{getD, set}
+use Rattle.laws.specs.Truth.{pick, both, either}
+use Rattle.laws.specs.Bytes.{sameBytes}
+use Rattle.laws.specs.Text.{byte, bytes}
+use Rattle.laws.specs.Checks.{Check, _unless_, firstFailing}
+use Rattle.laws.specs.Order.{isLess, bytesOrder}
+use Rattle.dates.specs.Calendar.{isDay}
+use Rattle.codes.specs.Codes.{known}
+use Rattle.series.specs.declared.Series.{Series}
+use Rattle.series.specs.declared.Side.{Side}
+use Rattle.series.specs.declared.Side.the-variants.{Long, Short}
+use Rattle.series.specs.Checks.{suits, classOf}
+use Rattle.pairing.specs.Rules.{partsOf, pairChecks}
+use Rattle.pairing.specs.Sides.{firstSide, secondSide}
+use Rattle.rows.specs.declared.Holding.{Holding}
+use Rattle.rows.specs.declared.Pair.{Pair}
+use Rattle.rows.specs.declared.Book.{Book}
+use Rattle.rows.specs.Rows.{holdingRank, pairRank, noLots}
+use Rattle.rows.specs.Book.{emptyBook}
+use Rattle.rules.specs.Rules.{isIdentity, countsFit}
+use Rattle.halving.specs.Halving.{keyAt, placeOf}
+use Rattle.sound.specs.Walk.{halves}
+use Rattle.lines.specs.declared.Kind.{Kind}
+use Rattle.lines.specs.declared.Cell.{Cell}
+use Rattle.reading.specs.Reading.{headForm, holdingForm, pairForm, cell, holdingIn, pairIn}
+
+-- a line's letter, or 0; the form of the fields behind it, and how many they are
+unfoldable pub letterIn : List ℕ → ℕ
+letterIn f = pick (sameBytes f (bytes "A")) (byte "A") (pick (sameBytes f (bytes "H")) (byte "H") (pick (sameBytes f (bytes "M")) (byte "M") 0))
+
+unfoldable pub formFor : ℕ → List Kind
+formFor letter = pick (eqb letter (byte "A")) headForm (pick (eqb letter (byte "H")) holdingForm (pick (eqb letter (byte "M")) pairForm []))
+
+unfoldable pub fieldsFor : ℕ → ℕ
+fieldsFor letter = pick (eqb letter (byte "A")) 3 (pick (eqb letter (byte "H")) 6 (pick (eqb letter (byte "M")) 12 13))
+
+-- The checks of a line but the last of an M line, with what the book before it has to tell: how many rows, and the last of them.
+
+unfoldable pub numberOfHead : List Cell → Bool → ℕ
+numberOfHead cs first = firstFailing (5 unless isDay (cell cs 2 .number) ∷ 2 unless isIdentity (cell cs 1 .number) ∷ 3 unless first ∷ [])
+
+-- a row after the last of so many
+abbrev pub after : {A : Type 0} → (A → List ℕ) → ℕ → A → A → Bool
+after rank n last x = either (eqb n 0) (isLess (bytesOrder (rank last) (rank x)))
+
+unfoldable pub numberOfHolding : Holding → Holding → Bool → ℕ → ℕ → ℕ
+numberOfHolding h last first held paired =
+    firstFailing
+    (1 unless not first
+    ∷ 4 unless known (classOf (h .series))
+    ∷ 5 unless isDay (h .series .date)
+    ∷ 2 unless both (suits (classOf (h .series)) (h .series .nature)) (both (leb (h .long) 100000) (both (leb (h .short) 100000) (not (noLots h))))
+    ∷ 3 unless both (eqb paired 0) (after holdingRank held last h)
+    ∷ 8 unless ltb held 128
+    ∷ [])
+
+-- of the numbers of two series the one that comes first in 4, 5, 2
+abbrev pub worse : ℕ → ℕ → ℕ
+worse a b =
+    pick (both (not (eqb a 4)) (not (eqb b 4)))
+    (pick (both (not (eqb a 5)) (not (eqb b 5))) (pick (both (not (eqb a 2)) (not (eqb b 2))) 0 2) 5)
+    4
+
+unfoldable pub pairChecksButLots : Pair → Pair → Bool → ℕ → List Check
+pairChecksButLots p last first paired =
+    1 unless not first
+    ∷ 4 unless both (known (classOf (p .first))) (known (classOf (p .second)))
+    ∷ 5 unless both (isDay (p .first .date)) (isDay (p .second .date))
+    ∷ 2 unless both (suits (classOf (p .first)) (p .first .nature)) (suits (classOf (p .second)) (p .second .nature))
+    ∷ 6 unless countsFit (p .r1) (p .r2) (p .units)
+    ∷ (pairChecks (partsOf (p .kind) (p .first) (p .second) (p .r1) (p .r2))
+    ++ (3 unless after pairRank paired last p
+    ∷ 11 unless ltb paired 128
+    ∷ []))
+
+unfoldable pub numberOfPair : Pair → Pair → Bool → ℕ → ℕ
+numberOfPair p last first paired = firstFailing (pairChecksButLots p last first paired)
+
+-- by the letter; `before` is what stood in the line before
+unfoldable pub numberFor : ℕ → List Cell → List Cell → Bool → ℕ → ℕ → ℕ
+numberFor letter cs before first held paired =
+    pick (eqb letter (byte "A")) (numberOfHead cs first)
+    (pick (eqb letter (byte "H")) (numberOfHolding (holdingIn cs) (holdingIn before) first held paired)
+    (numberOfPair (pairIn cs) (pairIn before) first paired))
+
+-- the book of an A line
+unfoldable pub headBook : List Cell → Book
+headBook cs = emptyBook (cell cs 0 .number) (cell cs 1 .number % 256) (cell cs 2 .number)
+
+-- where the free lots of a row and side stand, and those of a series and side; 256, where nothing stands, if it is not held
+unfoldable pub slot : ℕ → Side → ℕ
+slot row Long = 2 * row
+slot row Short = 2 * row + 1
+
+unfoldable pub slotAt : List ℕ → List ℕ → ℕ → Series → Side → ℕ
+slotAt highs lows held s d =
+    pick (both (ltb (placeOf highs lows held (halves s)) held) (sameBytes (keyAt highs lows (placeOf highs lows held (halves s))) (halves s)))
+    (slot (placeOf highs lows held (halves s)) d)
+    256
+
+-- the slots of a pair's legs
+abbrev pub firstSlot : List ℕ → List ℕ → ℕ → Pair → ℕ
+firstSlot highs lows held p = slotAt highs lows held (p .first) (firstSide (p .kind) (p .second))
+
+abbrev pub secondSlot : List ℕ → List ℕ → ℕ → Pair → ℕ
+secondSlot highs lows held p = slotAt highs lows held (p .second) (secondSide (p .kind))
+
+-- both legs find their lots there, and the free lots when each has taken its own
+unfoldable pub legsFound : List ℕ → List ℕ → List ℕ → ℕ → Pair → Bool
+legsFound highs lows free held p =
+    both (leb (p .r1 * p .units) (getD free (firstSlot highs lows held p) 0)) (leb (p .r2 * p .units) (getD free (secondSlot highs lows held p) 0))
+
+abbrev pub lessAt : List ℕ → ℕ → ℕ → List ℕ
+lessAt free x lots = set free x (getD free x 0 - lots)
+
+abbrev pub lessLegs : List ℕ → ℕ → ℕ → Pair → List ℕ
+lessLegs free x y p = lessAt (lessAt free x (p .r1 * p .units)) y (p .r2 * p .units)
+
+unfoldable pub legsTaken : List ℕ → List ℕ → List ℕ → ℕ → Pair → List ℕ
+legsTaken highs lows free held p =
+    pick (legsFound highs lows free held p) (lessLegs free (firstSlot highs lows held p) (secondSlot highs lows held p) p) free

@@ -1,0 +1,14 @@
+pub mod Reading
+pub mod Facts
+pub mod NumberLaws
+pub mod Next
+pub mod NextLaws
+pub mod PassLaws
+pub mod FormLaws
+pub mod KeepLaws
+pub mod TurnLaws
+pub mod LastLaws
+pub mod SlotLaws
+pub mod FreeLaws
+pub mod StateLaws
+pub mod StepLaws

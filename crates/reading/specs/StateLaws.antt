@@ -1,0 +1,272 @@
+-- Laws of what goes along with the book from line to line: the keys and free lots of its holdings, and what stood in the line before.
+use mathlib.Core.Path.{_≡_, refl, ap, sym, _∙_, subst}
+use mathlib.Core.Bool.{Bool, true, not}
+use mathlib.Core.List.{List, [], _∷_, _++_}
+use mathlib.Core.Logic.{⊎-elim}
+use Prim.Native.Nat.{ℕ, suc, _+_, _-_, _*_, _%_, _<_, _≤_}
+use native.Mathlib.Omega.{arith}
+use native.Mathlib.Decide.{decLt}
+use native.Mathlib.Numerals.{add-one}
+use borrow.Author.Tests.{eqb-false}
+use lib.Dec.{leb, eqb}
+use lib.ListN.{getD, length, take, set, replicate, length-set, length-append}
+use lib.Seq.{append-snoc, take-suc-set, getD-take, getD-set-same, getD-set-other, set-at}
+use Rattle.laws.specs.Truth.{pick, both, either, within}
+use Rattle.laws.specs.TruthLaws.{by-test, either-true, within-true}
+use Rattle.laws.specs.Checks.{firstFailing, orElse}
+use Rattle.laws.specs.Order.{isLess, bytesOrder}
+use Rattle.lists.specs.Places.{full}
+use Rattle.lists.specs.Sorted.{ascending, sumOf}
+use Rattle.lists.specs.SortedLaws.{sum-joined}
+use Rattle.series.specs.declared.Series.{Series}
+use Rattle.series.specs.declared.Side.{Side}
+use Rattle.series.specs.declared.Side.the-variants.{Long, Short}
+use Rattle.series.specs.Checks.{goodSeries}
+use Rattle.series.specs.Key.{highKey, natureKey, halvesOf}
+use Rattle.pairing.specs.Sides.{firstSide, secondSide}
+use Rattle.rows.specs.declared.Holding.{Holding}
+use Rattle.rows.specs.declared.Pair.{Pair}
+use Rattle.rows.specs.declared.Book.{Book}
+use Rattle.rows.specs.Rows.{holdingRank, pairRank, lotsOn}
+use Rattle.rows.specs.Book.{holdingsOf, pairsOf, heldRows, pairedRows, withHoldings, withPairs, emptyBook}
+use Rattle.rules.specs.Facts.{SoundRows, Sound}
+use Rattle.rules.specs.Lots.{firstLeg, secondLeg, ties, tied, tiedBy, free as freeLots}
+use Rattle.rules.specs.Rules.{isIdentity}
+use Rattle.rules.specs.RuleLaws.{holdings-count, holdings-order, pairs-count, pairs-order, pair-is}
+use Rattle.sound.specs.Walk.{noRow, Keyed}
+use Rattle.sound.specs.KeyedLaws.{keyed-starts, keyed-next}
+use Rattle.sound.specs.WalkLaws.{rows-long, noPair}
+use Rattle.calls.specs.Calls.{legFree}
+use Rattle.lines.specs.declared.Cell.{Cell}
+use Rattle.reading.specs.Reading.{holding, pair, cell, headIn, holdingIn, pairIn, lineChecks, withLine}
+use Rattle.reading.specs.Facts.{after, numberOfPair, numberFor, headBook, slot, firstSlot, secondSlot, legsFound, lessAt, lessLegs}
+use Rattle.reading.specs.Next.{NextHolding, NextPair}
+use Rattle.reading.specs.LastLaws.{ascends-after, head-number-is, holding-number-of, pair-number-of}
+use Rattle.reading.specs.FreeLaws.{slot-has, leg-takes}
+
+-- What goes along with the book b.
+pub record Along (b : Book) (highs lows free : List ℕ) (before : List Cell) : Type 0 where
+  pub sound : Sound b
+  pub highs-long : length highs ≡ 128
+  pub lows-long : length lows ≡ 128
+  pub free-long : length free ≡ 256
+  pub keyed : Keyed noRow (b .holdings) (b .held) highs lows
+  pub lots : (i : ℕ) (d : Side) → i < b .held → getD free (slot i d) 0 ≡ lotsOn d (getD (b .holdings) i noRow) - tied (pairsOf b) (getD (b .holdings) i noRow .series) d
+  pub last-holding : b .paired ≡ 0 → 0 < b .held → holdingRank (holdingIn before) ≡ holdingRank (getD (b .holdings) (b .held - 1) noRow)
+  pub last-pair : 0 < b .paired → pairRank (pairIn before) ≡ pairRank (getD (b .pairs) (b .paired - 1) noPair)
+
+-- Of an empty book nothing goes along.
+pub along-empty : (b : Book) (highs lows free : List ℕ) (before : List Cell) → Sound b → b .held ≡ 0 → b .paired ≡ 0 → length highs ≡ 128 → length lows ≡ 128 → length free ≡ 256 → Along b highs lows free before
+along-empty b highs lows free before s h p hl ll fl =
+    record {
+      sound = s;
+      highs-long = hl;
+      lows-long = ll;
+      free-long = fl;
+      keyed = subst (λ (n : ℕ). Keyed noRow (b .holdings) n highs lows) (sym h) (keyed-starts noRow (b .holdings) highs lows);
+      lots = λ i d lt. absurd (omega arith);
+      last-holding = λ z lt. absurd (omega arith);
+      last-pair = λ lt. absurd (omega arith);
+    }
+
+-- A row after the last one, by any row of the last one's rank.
+after-same : {A : Type 0} (rank : A → List ℕ) (n : ℕ) (x y z : A) → (0 < n → rank x ≡ rank y) → after rank n x z ≡ after rank n y z
+after-same rank n x y z e =
+    by-test (λ (t : Bool). eqb n 0 ≡ t → either t (isLess (bytesOrder (rank x) (rank z))) ≡ either t (isLess (bytesOrder (rank y) (rank z)))) (eqb n 0)
+    (λ q f. refl)
+    (λ q f. let k = eqb-false n 0 f in ap (λ (r : List ℕ). isLess (bytesOrder r (rank z))) (e (omega arith)))
+    refl
+
+module _ {b : Book} {highs lows free : List ℕ} {before : List Cell} (a : Along b highs lows free before) where
+  after-holdings : (h : Holding) → b .paired ≡ 0 → after holdingRank (b .held) (holdingIn before) h ≡ ascending holdingRank (holdingsOf b ++ (h ∷ []))
+  unfolding holdingsOf
+  after-holdings h none =
+      let s = a .sound in
+      after-same holdingRank (b .held) (holdingIn before) (getD (holdingsOf b) (b .held - 1) noRow) h
+      (λ lt. a .last-holding none lt ∙ ap holdingRank (sym (getD-take (b .held) (b .holdings) (b .held - 1) noRow (omega arith))))
+      ∙ sym (ascends-after holdingRank h noRow (holdingsOf b) (b .held) (holdings-count s) (holdings-order s))
+
+  after-pairs : (p : Pair) → after pairRank (b .paired) (pairIn before) p ≡ ascending pairRank (pairsOf b ++ (p ∷ []))
+  unfolding pairsOf
+  after-pairs p =
+      let s = a .sound in
+      after-same pairRank (b .paired) (pairIn before) (getD (pairsOf b) (b .paired - 1) noPair) p
+      (λ lt. a .last-pair lt ∙ ap pairRank (sym (getD-take (b .paired) (b .pairs) (b .paired - 1) noPair (omega arith))))
+      ∙ sym (ascends-after pairRank p noPair (pairsOf b) (b .paired) (pairs-count s) (pairs-order s))
+
+  -- A number that is not 0 is that of the line's first check that fails.
+  module _ (first : Bool) (cells : List Cell) {letter : ℕ} {number : ℕ} (is : number ≡ numberFor letter cells before first (b .held) (b .paired)) where
+    pub head-number : letter ≡ 65 → number ≡ firstFailing (lineChecks first b (headIn cells))
+    unfolding numberFor
+    head-number l = is ∙ rw l (head-number-is first b cells)
+
+    pub holding-number : letter ≡ 72 → number ≡ firstFailing (lineChecks first b (holding (holdingIn cells)))
+    unfolding numberFor
+    holding-number l = is ∙ rw l (holding-number-of first b (holdingIn cells) (holdingIn before) (after-holdings (holdingIn cells)))
+
+    pub pair-number : letter ≡ 77 → firstFailing (lineChecks first b (pair (pairIn cells))) ≡ orElse number (pick (both (legFree b (firstLeg (pairIn cells))) (legFree b (secondLeg (pairIn cells)))) 0 9)
+    unfolding numberFor
+    pair-number l =
+        let e : number ≡ numberOfPair (pairIn cells) (pairIn before) first (b .paired) = is ∙ rw l in
+        pair-number-of first b (pairIn cells) (pairIn before) (after-pairs (pairIn cells)) ∙ ap (λ (n : ℕ). orElse n (pick (both (legFree b (firstLeg (pairIn cells))) (legFree b (secondLeg (pairIn cells)))) 0 9)) (sym e)
+
+-- Rows in an array with one more at the end of the live ones.
+set-end : {A : Type 0} (n : ℕ) (d x : A) (l : List A) → length l < n → set (full n d l) (length l) x ≡ full n d (l ++ (x ∷ []))
+unfolding full
+set-end n d x l lt =
+    let k : n - length l ≡ suc (n - (length l + 1)) = omega arith in
+    let m : n - length (l ++ (x ∷ [])) ≡ n - (length l + 1) = omega (arith, length-append l (x ∷ [])) in
+    rw (k, m) (set-at l d (replicate (n - (length l + 1)) d) x (length l) refl ∙ sym (append-snoc l x (replicate (n - (length l + 1)) d)))
+
+row-more : {A : Type 0} {empty : A} {good : A → Bool} {rank : A → List ℕ} {n : ℕ} {rows : List A} (x : A) → SoundRows empty good rank n rows → n < 128 → (set rows n x ≡ full 128 empty (take n rows ++ (x ∷ []))) × (n + 1 ≡ length (take n rows ++ (x ∷ [])))
+row-more {A} {empty} {good} {rank} {n} {rows} x s lt =
+    let c = s .counted in
+    (ap (λ (l : List A). set l n x) (s .filled) ∙ subst (λ (k : ℕ). set (full 128 empty (take n rows)) k x ≡ full 128 empty (take n rows ++ (x ∷ []))) c (set-end 128 empty x (take n rows) (omega arith)), omega (arith, length-append (take n rows) (x ∷ [])))
+
+-- An A line.
+identity-small : (n : ℕ) → isIdentity n ≡ true → n < 256
+identity-small n e =
+    ⊎-elim (λ h. let k = within-true 48 57 n h in omega arith) (λ h. let k = within-true 65 90 n h in omega arith)
+    (either-true (within 48 57 n) (within 65 90 n) e)
+
+pub head-book-is : (b : Book) (cells : List Cell) → isIdentity (cell cells 1 .number) ≡ true → headBook cells ≡ withLine b (headIn cells)
+unfolding headBook withLine headIn
+head-book-is b cells e =
+    let small = identity-small (cell cells 1 .number) e in
+    let same : cell cells 1 .number % 256 ≡ cell cells 1 .number = omega arith in
+    ap (λ (i : ℕ). emptyBook (cell cells 0 .number) i (cell cells 2 .number)) same
+
+-- The free lots with a row entered behind the others.
+slot-low : (i : ℕ) (d : Side) → slot i d ≤ 2 * i + 1
+unfolding slot
+slot-low i Long = omega arith
+slot-low i Short = omega arith
+
+entered-before : (free : List ℕ) (n i : ℕ) (d : Side) (h : Holding) → i < n → getD (set (set free (2 * n) (h .long)) (2 * n + 1) (h .short)) (slot i d) 0 ≡ getD free (slot i d) 0
+entered-before free n i d h lt =
+    let low = slot-low i d in
+    getD-set-other (set free (2 * n) (h .long)) (2 * n + 1) (slot i d) (h .short) 0 (λ e. omega arith) ∙ getD-set-other free (2 * n) (slot i d) (h .long) 0 (λ e. omega arith)
+
+entered-here : (free : List ℕ) (n : ℕ) (d : Side) (h : Holding) → length free ≡ 256 → n < 128 → getD (set (set free (2 * n) (h .long)) (2 * n + 1) (h .short)) (slot n d) 0 ≡ lotsOn d h
+unfolding slot
+entered-here free n Long h long few =
+    getD-set-other (set free (2 * n) (h .long)) (2 * n + 1) (2 * n) (h .short) 0 (λ e. omega arith) ∙ getD-set-same free (2 * n) (h .long) 0 (omega arith)
+entered-here free n Short h long few = getD-set-same (set free (2 * n) (h .long)) (2 * n + 1) (h .short) 0 (simp length-set (omega arith))
+
+-- An H line: its row is the last, with its key and all its lots free.
+module _ {b : Book} {highs lows free : List ℕ} {before : List Cell} (a : Along b highs lows free before) (cells : List Cell) (next : NextHolding b (holdingIn cells)) where
+  abbrev row : Holding
+  row = holdingIn cells
+
+  held-few : b .held < 128
+  held-few = let c = holdings-count (a .sound) in let r = next .row .room in omega arith
+
+  pub holding-book-is : heldRows b (set (b .holdings) (b .held) row) (b .held + 1) ≡ withLine b (holding row)
+  unfolding withLine withHoldings holdingsOf
+  holding-book-is = let m = row-more row (a .sound .holdings-sound) held-few in λ i. heldRows b (m .0 i) (m .1 i)
+
+  -- the rows before it stay
+  stays : (i : ℕ) → i < b .held → getD (set (b .holdings) (b .held) row) i noRow ≡ getD (b .holdings) i noRow
+  stays i lt = getD-set-other (b .holdings) (b .held) i row noRow (λ e. omega arith)
+
+  here : getD (set (b .holdings) (b .held) row) (b .held) noRow ≡ row
+  here = let long = rows-long (a .sound .holdings-sound) in let few = held-few in getD-set-same (b .holdings) (b .held) row noRow (omega arith)
+
+  keyed-more : Keyed noRow (set (b .holdings) (b .held) row) (b .held + 1) (set highs (b .held) (highKey (row .series))) (set lows (b .held) (natureKey (row .series .nature)))
+  keyed-more =
+      let k = a .keyed in
+      let hl = a .highs-long in
+      let ll = a .lows-long in
+      let few = held-few in
+      keyed-next {highs = highs} {lows = lows} {k = halvesOf (row .series)}
+      (record {
+        highs-long = k .highs-long;
+        lows-long = k .lows-long;
+        highs-are = λ i lt. k .highs-are i lt ∙ ap (λ (h : Holding). highKey (h .series)) (sym (stays i lt));
+        lows-are = λ i lt. k .lows-are i lt ∙ ap (λ (h : Holding). natureKey (h .series .nature)) (sym (stays i lt));
+      })
+      (omega arith) (omega arith) (ap (λ (h : Holding). halvesOf (h .series)) (sym here))
+
+  none-tied : (t : Series) (d : Side) → tied (pairsOf b) t d ≡ 0
+  unfolding pairsOf tied sumOf
+  none-tied t d = ap (λ (n : ℕ). tied (take n (b .pairs)) t d) (next .no-pairs)
+
+  lots-more : (i : ℕ) (d : Side) → i < b .held + 1 → getD (set (set free (2 * b .held) (row .long)) (2 * b .held + 1) (row .short)) (slot i d) 0 ≡ lotsOn d (getD (set (b .holdings) (b .held) row) i noRow) - tied (pairsOf b) (getD (set (b .holdings) (b .held) row) i noRow .series) d
+  lots-more i d lt = go (decLt i (b .held))
+    where
+      go : Dec (i < b .held) → getD (set (set free (2 * b .held) (row .long)) (2 * b .held + 1) (row .short)) (slot i d) 0 ≡ lotsOn d (getD (set (b .holdings) (b .held) row) i noRow) - tied (pairsOf b) (getD (set (b .holdings) (b .held) row) i noRow .series) d
+      go (yes q) = entered-before free (b .held) i d row q ∙ a .lots i d q ∙ rw (stays i q)
+      go (no q) =
+          let is : i ≡ b .held = omega arith in
+          rw (is, here, none-tied (row .series) d) (entered-here free (b .held) d row (a .free-long) held-few ∙ omega arith)
+
+  -- The number of the holdings, and what goes along, with one more.
+  pub holding-along : Sound (withLine b (holding row)) → Along (heldRows b (set (b .holdings) (b .held) row) (b .held + 1)) (set highs (b .held) (highKey (row .series))) (set lows (b .held) (natureKey (row .series .nature))) (set (set free (2 * b .held) (row .long)) (2 * b .held + 1) (row .short)) cells
+  unfolding pairsOf
+  holding-along s =
+      let last : b .held + 1 - 1 ≡ b .held = omega arith in
+      let none = next .no-pairs in
+      record {
+        sound = subst Sound (sym holding-book-is) s;
+        highs-long = simp length-set (a .highs-long);
+        lows-long = simp length-set (a .lows-long);
+        free-long = simp length-set (a .free-long);
+        keyed = keyed-more;
+        lots = lots-more;
+        last-holding = λ z lt. rw last (ap holdingRank (sym here));
+        last-pair = λ lt. absurd (omega arith);
+      }
+
+-- An M line: its legs find their lots in their slots, and take them there.
+module _ {b : Book} {highs lows free : List ℕ} {before : List Cell} (a : Along b highs lows free before) (p : Pair) (first-good : goodSeries (p .first) ≡ true) (second-good : goodSeries (p .second) ≡ true) where
+  pub legs-are-free : legsFound highs lows free (b .held) p ≡ both (legFree b (firstLeg p)) (legFree b (secondLeg p))
+  unfolding legsFound legFree freeLots firstLeg secondLeg
+  legs-are-free =
+      let x = slot-has (a .sound) (a .keyed) free (pairsOf b) (a .free-long) (a .lots) (p .first) first-good (firstSide (p .kind) (p .second)) in
+      let y = slot-has (a .sound) (a .keyed) free (pairsOf b) (a .free-long) (a .lots) (p .second) second-good (secondSide (p .kind)) in
+      λ i. both (leb (p .r1 * p .units) (x i)) (leb (p .r2 * p .units) (y i))
+
+  lots-less : (i : ℕ) (d : Side) → i < b .held → getD (lessLegs free (firstSlot highs lows (b .held) p) (secondSlot highs lows (b .held) p) p) (slot i d) 0 ≡ lotsOn d (getD (b .holdings) i noRow) - tied (pairsOf b ++ (p ∷ [])) (getD (b .holdings) i noRow .series) d
+  unfolding firstLeg secondLeg tied tiedBy sumOf
+  lots-less i d lt =
+      let v : ℕ → Side → ℕ = λ (j : ℕ) (e : Side). lotsOn e (getD (b .holdings) j noRow) - tied (pairsOf b) (getD (b .holdings) j noRow .series) e in
+      let one = leg-takes (a .sound) (a .keyed) (firstLeg p) first-good free v (a .free-long) (a .lots) in
+      let two = leg-takes (a .sound) (a .keyed) (secondLeg p) second-good (lessAt free (firstSlot highs lows (b .held) p) (p .r1 * p .units)) (λ (j : ℕ) (e : Side). v j e - ties (getD (b .holdings) j noRow .series) e (firstLeg p)) (simp length-set (a .free-long)) one i d lt in
+      let sum = sum-joined (tiedBy (getD (b .holdings) i noRow .series) d) (pairsOf b) (p ∷ []) in
+      two ∙ omega arith
+
+-- With the pair as the last one.
+module _ {b : Book} {highs lows free : List ℕ} {before : List Cell} (a : Along b highs lows free before) (cells : List Cell) (next : NextPair b (pairIn cells)) where
+  abbrev newest : Pair
+  newest = pairIn cells
+
+  paired-few : b .paired < 128
+  paired-few = let c = pairs-count (a .sound) in let r = next .row .room in omega arith
+
+  pub pair-book-is : pairedRows b (set (b .pairs) (b .paired) newest) (b .paired + 1) ≡ withLine b (pair newest)
+  unfolding withLine withPairs pairsOf
+  pair-book-is = let m = row-more newest (a .sound .pairs-sound) paired-few in λ i. pairedRows b (m .0 i) (m .1 i)
+
+  its-pairs-are : pairsOf (pairedRows b (set (b .pairs) (b .paired) newest) (b .paired + 1)) ≡ pairsOf b ++ (newest ∷ [])
+  unfolding pairsOf
+  its-pairs-are =
+      let long = rows-long (a .sound .pairs-sound) in
+      let few = paired-few in
+      rw (add-one (b .paired)) (take-suc-set (b .pairs) (b .paired) newest (omega arith))
+
+  pub pair-along : Sound (withLine b (pair newest)) → Along (pairedRows b (set (b .pairs) (b .paired) newest) (b .paired + 1)) highs lows (lessLegs free (firstSlot highs lows (b .held) newest) (secondSlot highs lows (b .held) newest) newest) cells
+  pair-along s =
+      let g = pair-is newest (next .row .is-good) in
+      let long = rows-long (a .sound .pairs-sound) in
+      let few = paired-few in
+      let last : b .paired + 1 - 1 ≡ b .paired = omega arith in
+      record {
+        sound = subst Sound (sym pair-book-is) s;
+        highs-long = a .highs-long;
+        lows-long = a .lows-long;
+        free-long = simp length-set (a .free-long);
+        keyed = a .keyed;
+        lots = λ i d lt. rw its-pairs-are (lots-less a newest (g .first-good) (g .second-good) i d lt);
+        last-holding = λ z lt. absurd (omega arith);
+        last-pair = λ lt. rw last (ap pairRank (sym (getD-set-same (b .pairs) (b .paired) newest noPair (omega arith))));
+      }

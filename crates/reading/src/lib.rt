@@ -1,0 +1,445 @@
+// The reader of a book: line after line, field after field, left at the first refusal with its line.
+ghost use mathlib.Core.Path.{_≡_};
+ghost use Prim.Native.Nat.{_+_, _-_, _*_, _≤_, _<_};
+ghost use lib.Dec.{leb};
+ghost use lib.ListN.{getD, length, set};
+ghost use Rattle.laws.specs.Truth.{both};
+ghost use Rattle.series.specs.Key.{highKey, natureKey};
+ghost use Rattle.rows.specs.Book.{noBook};
+ghost use Rattle.rules.specs.Facts.{Counts};
+ghost use Rattle.lines.specs.declared.Kind.the-variants.{Nothing};
+ghost use Rattle.lines.specs.Parts.{lf, splitOn};
+ghost use Rattle.reading.specs.Reading.{headForm, holdingForm, pairForm, holdingIn, pairIn, refusedAt, accepted, readLines, readText};
+ghost use Rattle.reading.specs.Facts.{letterIn, formFor, fieldsFor, worse, numberOfHead, numberOfHolding, numberOfPair, numberFor, headBook, slot, slotAt, legsFound, legsTaken};
+use laws::Order;
+use lines::Cell;
+use lines::Kind;
+use rows::Book;
+use rows::Holding;
+use rows::Pair;
+use series::Series;
+use series::Side;
+
+// 0 and the book, or the number of the first check that fails, its line, and the empty book.
+pub struct Answer {
+    pub number: u8,
+    pub line: u32,
+    pub book: Book,
+}
+
+fn refused(number: u8, line: u32) -> Answer
+    ensures { λ r. ⌜ r ≡ refusedAt number line ⌝ }
+{
+    Answer {
+        number,
+        line,
+        book: rows::empty_book(0, b'0', 20000101),
+    }
+}
+
+fn accept(book: Book) -> Answer
+    ensures { λ r. ⌜ r ≡ accepted book ⌝ }
+{
+    Answer {
+        number: 0,
+        line: 0,
+        book,
+    }
+}
+
+// The line's letter, or 0.
+fn letter_of(t: &[u8]) -> u8
+    ensures { λ r. ⌜ r ≡ letterIn (now (t .entry)) ⌝ }
+{
+    if lines::same_text(t, b"A") {
+        return b'A';
+    }
+    if lines::same_text(t, b"H") {
+        return b'H';
+    }
+    if lines::same_text(t, b"M") {
+        return b'M';
+    }
+    0
+}
+
+const HEAD: [Kind; 3] = [Kind::Account, Kind::Mark, Kind::Date];
+
+const HOLDING: [Kind; 6] = [
+    Kind::Code,
+    Kind::Date,
+    Kind::Mark,
+    Kind::Number,
+    Kind::Number,
+    Kind::Number,
+];
+
+const PAIR: [Kind; 12] = [
+    Kind::Number,
+    Kind::Code,
+    Kind::Date,
+    Kind::Mark,
+    Kind::Number,
+    Kind::Code,
+    Kind::Date,
+    Kind::Mark,
+    Kind::Number,
+    Kind::Number,
+    Kind::Number,
+    Kind::Number,
+];
+
+fn head_kind(k: usize) -> Kind
+    ensures { λ r. ⌜ r ≡ getD headForm k Nothing ⌝ }
+{
+    if 3 <= k {
+        return Kind::Nothing;
+    }
+    HEAD[k]
+}
+
+fn holding_kind(k: usize) -> Kind
+    ensures { λ r. ⌜ r ≡ getD holdingForm k Nothing ⌝ }
+{
+    if 6 <= k {
+        return Kind::Nothing;
+    }
+    HOLDING[k]
+}
+
+fn pair_kind(k: usize) -> Kind
+    ensures { λ r. ⌜ r ≡ getD pairForm k Nothing ⌝ }
+{
+    if 12 <= k {
+        return Kind::Nothing;
+    }
+    PAIR[k]
+}
+
+// What the form of the letter's line asks of the field k behind the letter.
+fn kind_at(letter: u8, k: usize) -> Kind
+    ensures { λ r. ⌜ r ≡ getD (formFor letter) k Nothing ⌝ }
+{
+    match letter {
+        b'A' => head_kind(k),
+        b'H' => holding_kind(k),
+        b'M' => pair_kind(k),
+        _ => Kind::Nothing,
+    }
+}
+
+// How many fields stand behind the letter; more than there can be where it is no letter of a book.
+fn fields_of(letter: u8) -> usize
+    ensures { λ r. ⌜ r ≡ fieldsFor letter ⌝ }
+{
+    match letter {
+        b'A' => 3,
+        b'H' => 6,
+        b'M' => 12,
+        _ => 13,
+    }
+}
+
+fn holding_of(cells: [Cell; 12]) -> Holding
+    ensures { λ r. ⌜ r ≡ holdingIn cells ⌝ }
+{
+    Holding {
+        series: lines::series_of(cells[0], cells[1], cells[2], cells[3]),
+        long: cells[4].number,
+        short: cells[5].number,
+    }
+}
+
+fn pair_of(cells: [Cell; 12]) -> Pair
+    ensures { λ r. ⌜ r ≡ pairIn cells ⌝ }
+{
+    Pair {
+        kind: cells[0].number,
+        first: lines::series_of(cells[1], cells[2], cells[3], cells[4]),
+        second: lines::series_of(cells[5], cells[6], cells[7], cells[8]),
+        r1: cells[9].number,
+        r2: cells[10].number,
+        units: cells[11].number,
+    }
+}
+
+// Of the numbers of two series the one that comes first in 4, 5, 2; or 0.
+fn worse_of(a: u8, b: u8) -> u8
+    ensures { λ r. ⌜ r ≡ worse a b ⌝ }
+{
+    laws::unless(
+        4,
+        laws::and(a != 4, b != 4),
+        laws::unless(
+            5,
+            laws::and(a != 5, b != 5),
+            laws::unless(2, laws::and(a != 2, b != 2), 0),
+        ),
+    )
+}
+
+// The number that an A line is refused by, or 0.
+fn head_number(cells: [Cell; 12], first: bool) -> u8
+    ensures { λ r. ⌜ r ≡ numberOfHead cells first ⌝ }
+{
+    let mark = cells[1].number;
+    let identity = laws::or(
+        laws::in_range(b'0' as u32, b'9' as u32, mark),
+        laws::in_range(b'A' as u32, b'Z' as u32, mark),
+    );
+    let day = dates::is_day(cells[2].number);
+    laws::unless(5, day, laws::unless(2, identity, laws::unless(3, first, 0)))
+}
+
+// The number that an H line behind `held` holdings, the last of which is `last`, and `paired` pairs is refused by, or 0.
+fn holding_number(h: Holding, last: Holding, first: bool, held: usize, paired: usize) -> u8
+    ensures { λ r. ⌜ r ≡ numberOfHolding h last first held paired ⌝ }
+{
+    let s = h.series;
+    let lots = laws::and(
+        h.long <= 100000,
+        laws::and(h.short <= 100000, !rows::no_lots(h)),
+    );
+    let after = laws::or(held == 0, laws::is_less(rows::compare_holdings(last, h)));
+    let order = laws::and(paired == 0, after);
+    laws::unless(
+        1,
+        !first,
+        laws::or_else(
+            series::series_number(s),
+            laws::unless(
+                2,
+                lots,
+                laws::unless(3, order, laws::unless(8, held < 128, 0)),
+            ),
+        ),
+    )
+}
+
+// The number that an M line behind `paired` pairs, the last of which is `last`, is refused by before its lots are looked for, or 0.
+fn pair_number(p: Pair, last: Pair, first: bool, paired: usize) -> u8
+    ensures { λ r. ⌜ r ≡ numberOfPair p last first paired ⌝ }
+{
+    let a = p.first;
+    let b = p.second;
+    let series = worse_of(series::series_number(a), series::series_number(b));
+    let counts = rules::counts_fit(p.r1, p.r2, p.units);
+    let allowed = pairing::pair_number(p.kind, a, b, p.r1, p.r2);
+    let after = laws::or(paired == 0, laws::is_less(rows::compare_pairs(last, p)));
+    let place = laws::unless(3, after, laws::unless(11, paired < 128, 0));
+    laws::unless(
+        1,
+        !first,
+        laws::or_else(
+            series,
+            laws::unless(6, counts, laws::or_else(allowed, place)),
+        ),
+    )
+}
+
+// The number that a line of the form is refused by before its lots are looked for, or 0; `before` is what stood in the line before it.
+fn line_number(
+    letter: u8,
+    cells: [Cell; 12],
+    before: [Cell; 12],
+    first: bool,
+    held: usize,
+    paired: usize,
+) -> u8
+    ensures { λ r. ⌜ r ≡ numberFor letter cells before first held paired ⌝ }
+{
+    if letter == b'A' {
+        return head_number(cells, first);
+    }
+    if letter == b'H' {
+        return holding_number(holding_of(cells), holding_of(before), first, held, paired);
+    }
+    pair_number(pair_of(cells), pair_of(before), first, paired)
+}
+
+// The book that an A line begins.
+fn head_book(cells: [Cell; 12]) -> Book
+    ensures { λ r. ⌜ r ≡ headBook cells ⌝ }
+{
+    let mark = cells[1].number % 256;
+    rows::empty_book(cells[0].number, mark as u8, cells[2].number)
+}
+
+// Where the free lots of a row and side stand.
+fn slot_in(row: usize, side: Side) -> usize
+    requires { ⌜ row < 128 ⌝ }
+    ensures { λ r. ⌜ r ≡ slot row side ⌝ }
+{
+    match side {
+        Side::Long => 2 * row,
+        Side::Short => 2 * row + 1,
+    }
+}
+
+// Where the free lots of a series and side stand; 256 where it is not held.
+fn slot_of(highs: &[u64], lows: &[u64], held: usize, s: Series, side: Side) -> usize
+    requires { ⌜ (held ≤ 128) × ((held ≤ length (now highs)) × (held ≤ length (now lows))) ⌝ }
+    ensures { λ r. ⌜ r ≡ slotAt (now (highs .entry)) (now (lows .entry)) held s side ⌝ }
+{
+    let k = series::halves_of(s);
+    let row = halving::place_of(highs, lows, held, k.high, k.low);
+    if held <= row {
+        return 256;
+    }
+    if highs[row] != k.high {
+        return 256;
+    }
+    if lows[row] != k.low {
+        return 256;
+    }
+    slot_in(row, side)
+}
+
+fn lots_at(free: &[u32], x: usize) -> u32
+    ensures { λ r. ⌜ r ≡ getD (now (free .entry)) x 0 ⌝ }
+{
+    if x < free.len() { free[x] } else { 0 }
+}
+
+// Whether both legs of a pair find their lots free.
+fn legs_free(free: &[u32], x: usize, y: usize, p: Pair) -> bool
+    requires { ⌜ Counts (p .r1) (p .r2) (p .units) ⌝ }
+    ensures { λ r. ⌜ r ≡ both (leb (p .r1 * p .units) (getD (now (free .entry)) x 0)) (leb (p .r2 * p .units) (getD (now (free .entry)) y 0)) ⌝ }
+{
+    laws::and(
+        p.r1 * p.units <= lots_at(free, x),
+        p.r2 * p.units <= lots_at(free, y),
+    )
+}
+
+// Takes lots from those that stand at x.
+fn take_lots(free: &mut [u32], x: usize, lots: u32)
+    ensures { λ _. ⌜ now (free .exit) ≡ set (now (free .entry)) x (getD (now (free .entry)) x 0 - lots) ⌝ }
+{
+    if free.len() <= x {
+        return;
+    }
+    let has = free[x];
+    if has < lots {
+        free[x] = 0;
+        return;
+    }
+    free[x] = has - lots;
+}
+
+// Whether both legs of a pair find their lots free; each takes its own then.
+fn take_legs(highs: &[u64], lows: &[u64], free: &mut [u32], held: usize, p: Pair) -> bool
+    requires { ⌜ (Counts (p .r1) (p .r2) (p .units)) × ((held ≤ 128) × ((held ≤ length (now highs)) × (held ≤ length (now lows)))) ⌝ }
+    ensures { λ r. ⌜ (r ≡ legsFound (now (highs .entry)) (now (lows .entry)) (now (free .entry)) held p) × (now (free .exit) ≡ legsTaken (now (highs .entry)) (now (lows .entry)) (now (free .entry)) held p) ⌝ }
+{
+    let first = p.first;
+    let second = p.second;
+    let x = slot_of(
+        highs,
+        lows,
+        held,
+        first,
+        pairing::first_side(p.kind, second),
+    );
+    let y = slot_of(highs, lows, held, second, pairing::second_side(p.kind));
+    if !legs_free(free, x, y, p) {
+        return false;
+    }
+    take_lots(free, x, p.r1 * p.units);
+    take_lots(free, y, p.r2 * p.units);
+    true
+}
+
+// Enters a new row: its key, and its lots, which are all free.
+fn enter(highs: &mut [u64], lows: &mut [u64], free: &mut [u32], row: usize, h: Holding)
+    requires { ⌜ (row < 128) × ((row < length (now highs)) × ((row < length (now lows)) × (2 * row + 1 < length (now free)))) ⌝ }
+    ensures { λ _. ⌜ (now (highs .exit) ≡ set (now (highs .entry)) row (highKey (h .series))) × ((now (lows .exit) ≡ set (now (lows .entry)) row (natureKey (h .series .nature))) × (now (free .exit) ≡ set (set (now (free .entry)) (2 * row) (h .long)) (2 * row + 1) (h .short))) ⌝ }
+{
+    let s = h.series;
+    let k = series::halves_of(s);
+    highs[row] = k.high;
+    lows[row] = k.low;
+    free[2 * row] = h.long;
+    free[2 * row + 1] = h.short;
+}
+
+// Line after line. What stood in the line before, and the keys and free lots of the rows so far, go along with the book.
+fn read_lines(t: &[u8]) -> Answer
+    requires { ⌜ length (now t) ≤ 16384 ⌝ }
+    ensures { λ r. ⌜ r ≡ readLines 0 noBook (splitOn lf (now (t .entry))) ⌝ }
+{
+    let none = lines::no_cell();
+    let mut book = rows::empty_book(0, b'0', 20000101);
+    let mut highs = [0u64; 128];
+    let mut lows = [0u64; 128];
+    let mut free = [0u32; 256];
+    let mut before = [none; 12];
+    let mut line: u32 = 0;
+    let mut at: usize = 0;
+    'lines: loop {
+        if at == t.len() {
+            break 'lines accept(book);
+        }
+        line += 1;
+        let end = lines::next(t, at, b'\n');
+        if end == t.len() {
+            break 'lines refused(1, line);
+        }
+        let row = &t[at..end];
+        let mut stop = lines::next(row, 0, b'\t');
+        let letter = letter_of(&row[0..stop]);
+        let mut cells = [none; 12];
+        let mut k: usize = 0;
+        'fields: while stop < row.len() {
+            let from = stop + 1;
+            stop = lines::next(row, from, b'\t');
+            let cell = lines::cell_of(kind_at(letter, k), &row[from..stop]);
+            if !cell.right {
+                break 'lines refused(1, line);
+            }
+            cells[k] = cell;
+            k += 1;
+        }
+        if k != fields_of(letter) {
+            break 'lines refused(1, line);
+        }
+        let n = book.held;
+        let m = book.paired;
+        let number = line_number(letter, cells, before, line == 1, n, m);
+        if number != 0 {
+            break 'lines refused(number, line);
+        }
+        at = end + 1;
+        before = cells;
+        if letter == b'A' {
+            book = head_book(cells);
+            continue 'lines;
+        }
+        if letter == b'H' {
+            let h = holding_of(cells);
+            book.holdings[n] = h;
+            book.held = n + 1;
+            enter(&mut highs, &mut lows, &mut free, n, h);
+            continue 'lines;
+        }
+        let p = pair_of(cells);
+        if !take_legs(&highs, &lows, &mut free, n, p) {
+            break 'lines refused(9, line);
+        }
+        book.pairs[m] = p;
+        book.paired = m + 1;
+    }
+}
+
+// Reads a book: any bytes.
+pub fn read(t: &[u8]) -> Answer
+    ensures { λ r. ⌜ r ≡ readText (now (t .entry)) ⌝ }
+{
+    if 16384 < t.len() {
+        return refused(2, 0);
+    }
+    if t.len() == 0 {
+        return refused(1, 0);
+    }
+    read_lines(t)
+}

@@ -1,0 +1,1 @@
+// Laws alone: texts and books are in bijection.
