@@ -2,7 +2,6 @@
 use mathlib.Core.Path.{_≡_, refl, ap, sym, _∙_, subst}
 use mathlib.Core.Bool.{Bool, true, not}
 use mathlib.Core.List.{List, [], _∷_, _++_}
-use mathlib.Core.Logic.{⊎-elim}
 use Prim.Native.Nat.{ℕ, suc, _+_, _-_, _*_, _%_, _<_, _≤_}
 use native.Mathlib.Omega.{arith}
 use native.Mathlib.Decide.{decLt}
@@ -11,8 +10,8 @@ use borrow.Author.Tests.{eqb-false}
 use lib.Dec.{leb, eqb}
 use lib.ListN.{getD, length, take, set, replicate, length-set, length-append}
 use lib.Seq.{append-snoc, take-suc-set, getD-take, getD-set-same, getD-set-other, set-at}
-use Rattle.laws.specs.Truth.{pick, both, either, within}
-use Rattle.laws.specs.TruthLaws.{by-test, either-true, within-true}
+use Rattle.laws.specs.Truth.{pick, both, either}
+use Rattle.laws.specs.TruthLaws.{by-test}
 use Rattle.laws.specs.Checks.{firstFailing, orElse}
 use Rattle.laws.specs.Order.{isLess, bytesOrder}
 use Rattle.lists.specs.Places.{full}
@@ -32,7 +31,7 @@ use Rattle.rows.specs.Book.{holdingsOf, pairsOf, heldRows, pairedRows, withHold
 use Rattle.rules.specs.Facts.{SoundRows, Sound}
 use Rattle.rules.specs.Lots.{firstLeg, secondLeg, ties, tied, tiedBy, free as freeLots}
 use Rattle.rules.specs.Rules.{isIdentity}
-use Rattle.rules.specs.RuleLaws.{holdings-count, holdings-order, pairs-count, pairs-order, pair-is}
+use Rattle.rules.specs.RuleLaws.{holdings-count, holdings-order, pairs-count, pairs-order, pair-is, identity-between}
 use Rattle.sound.specs.Walk.{noRow, Keyed}
 use Rattle.sound.specs.KeyedLaws.{keyed-starts, keyed-next}
 use Rattle.sound.specs.WalkLaws.{rows-long, noPair}
@@ -124,15 +123,10 @@ row-more {A} {empty} {good} {rank} {n} {rows} x s lt =
     (ap (λ (l : List A). set l n x) (s .filled) ∙ subst (λ (k : ℕ). set (full 128 empty (take n rows)) k x ≡ full 128 empty (take n rows ++ (x ∷ []))) c (set-end 128 empty x (take n rows) (omega arith)), omega (arith, length-append (take n rows) (x ∷ [])))
 
 -- An A line.
-identity-small : (n : ℕ) → isIdentity n ≡ true → n < 256
-identity-small n e =
-    ⊎-elim (λ h. let k = within-true 48 57 n h in omega arith) (λ h. let k = within-true 65 90 n h in omega arith)
-    (either-true (within 48 57 n) (within 65 90 n) e)
-
 pub head-book-is : (b : Book) (cells : List Cell) → isIdentity (cell cells 1 .number) ≡ true → headBook cells ≡ withLine b (headIn cells)
 unfolding headBook withLine headIn
 head-book-is b cells e =
-    let small = identity-small (cell cells 1 .number) e in
+    let small = identity-between (cell cells 1 .number) e in
     let same : cell cells 1 .number % 256 ≡ cell cells 1 .number = omega arith in
     ap (λ (i : ℕ). emptyBook (cell cells 0 .number) i (cell cells 2 .number)) same
 

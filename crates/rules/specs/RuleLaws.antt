@@ -2,13 +2,15 @@
 use mathlib.Core.Path.{_≡_, refl, ap, sym, _∙_}
 use mathlib.Core.Bool.{Bool, true}
 use mathlib.Core.List.{List, _++_}
+use mathlib.Core.Logic.{⊎-elim}
 use Prim.Native.Nat.{ℕ, zero, suc, _-_, _*_, _≤_}
 use native.Mathlib.Omega.{arith}
 use lib.Dec.{eqb, leb}
 use lib.ListN.{length, take, drop, replicate, length-take, length-drop, take-append-drop}
 use borrow.Author.Tests.{eq-eqb, eqb-true, le-leb, leb-true, not-true}
 use Rattle.laws.specs.Truth.{within}
-use Rattle.laws.specs.TruthLaws.{both-true, both-hold, within-true}
+use Rattle.laws.specs.TruthLaws.{both-true, both-hold, either-true, within-true}
+use Rattle.laws.specs.Text.{byte}
 use Rattle.laws.specs.Search.{everyLine}
 use Rattle.laws.specs.Checks.{allPass}
 use Rattle.lists.specs.Places.{full}
@@ -194,3 +196,9 @@ book-is b s =
     let ps = s .pairs-sound .filled in
     let paired = sym (s .pairs-sound .counted) in
     λ i. record { account = b .account; identity = b .identity; day = b .day; holdings = hs i; held = held i; pairs = ps i; paired = paired i }
+
+-- A client code is a byte from 0 to Z.
+pub identity-between : (identity : ℕ) → isIdentity identity ≡ true → (byte "0" ≤ identity) × (identity ≤ byte "Z")
+identity-between identity e =
+    ⊎-elim (λ d. let h = within-true (byte "0") (byte "9") identity d in (h .0, omega arith)) (λ c. let h = within-true (byte "A") (byte "Z") identity c in (omega arith, h .1))
+    (either-true (within (byte "0") (byte "9") identity) (within (byte "A") (byte "Z") identity) e)

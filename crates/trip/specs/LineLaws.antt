@@ -1,13 +1,11 @@
 -- The lines of a book both ways: what is printed of a head, a holding and a pair is one line that says it, and the only line that says
 -- it is the printed one.
 use mathlib.Core.Path.{_≡_, refl, subst}
-use mathlib.Core.Logic.{⊎-elim}
 use mathlib.Core.Bool.{true}
 use mathlib.Core.List.{List, [], _∷_, _++_}
 use Prim.Native.Nat.{ℕ, _<_, _≤_}
 use native.Mathlib.Omega.{arith}
-use Rattle.laws.specs.Truth.{within}
-use Rattle.laws.specs.TruthLaws.{both-hold, either-true, within-true}
+use Rattle.laws.specs.TruthLaws.{both-hold}
 use Rattle.laws.specs.Text.{byte, bytes}
 use Rattle.laws.specs.Bytes.{sameBytes}
 use Rattle.laws.specs.Search.{everyLine}
@@ -19,7 +17,7 @@ use Rattle.pairing.specs.PairLaws.{stands-kind}
 use Rattle.rows.specs.declared.Holding.{Holding}
 use Rattle.rows.specs.declared.Pair.{Pair}
 use Rattle.rules.specs.Rules.{isIdentity, goodHolding, goodPair}
-use Rattle.rules.specs.RuleLaws.{holding-is, pair-is, counts-are}
+use Rattle.rules.specs.RuleLaws.{holding-is, pair-is, counts-are, identity-between}
 use Rattle.lines.specs.declared.Kind.{Kind}
 use Rattle.lines.specs.declared.Cell.{Cell}
 use Rattle.lines.specs.Parts.{tab, lf, more, splitOn}
@@ -39,9 +37,7 @@ pub record Says (text : List ℕ) (x : Line) : Type 0 where
 
 -- An identity is a byte above LF.
 identity-above : (identity : ℕ) → isIdentity identity ≡ true → lf < identity
-identity-above identity e =
-    ⊎-elim (λ d. let h = within-true (byte "0") (byte "9") identity d in omega arith) (λ c. let h = within-true (byte "A") (byte "Z") identity c in omega arith)
-    (either-true (within (byte "0") (byte "9") identity) (within (byte "A") (byte "Z") identity) e)
+identity-above identity e = let h = identity-between identity e in omega arith
 
 -- The line of a letter and printed fields says what its fields say.
 line-says : {ks : List Kind} {fs : List (List ℕ)} {cs : List Cell} (letter : ℕ) (x : Line) → plain (letter ∷ []) ≡ true → Reads ks fs cs → lineIn (letter ∷ []) fs ≡ x → Says (lineText letter fs) x
