@@ -1,10 +1,11 @@
 // Reads each text of standard input as a book, prints that book again, and says in a line what came of it; the file `stdout` says
 // what that must be. A text stands behind a line of five digits, its length, and before an LF. Fields are parted by tabs.
 //   X number line                      a refusal
-//   R account identity day holdings pairs length same exact short
+//   R account identity day holdings pairs length same exact short unsound
 //                                      a book: its counts of holdings and pairs; the length that printing it into 16,384 bytes
 //                                      answers; `same` where those are the bytes that were read, else `other`; the number of
-//                                      printing it into a buffer of just that length, and into one that is a byte shorter
+//                                      printing it into a buffer of just that length, and into one that is a byte shorter;
+//                                      the number of printing it there with an account that is none
 // A ? behind it says that something else is wrong: a refusal's book is not the empty one, a book's line is not 0, or a length is
 // not the one that it must be, or a byte behind a printed text or in the buffer that is too short was touched.
 use rows::Book;
@@ -128,6 +129,13 @@ fn show(b: Book, room: usize, text: &[u8]) -> Shown {
     show_in(b, room, text, &mut out)
 }
 
+// The book with an account that is none.
+fn spoilt(b: Book) -> Book {
+    let mut bad = b;
+    bad.account = 10000000;
+    bad
+}
+
 fn one_less(n: usize) -> usize {
     if 0 < n { n - 1 } else { 0 }
 }
@@ -152,16 +160,19 @@ fn answer_book(text: &[u8], line: u32, b: Book) {
     let length = full.length;
     let exact = show(b, length, text);
     let short = show(b, one_less(length), text);
+    let unsound = show(spoilt(b), one_less(length), text);
     say_book(b, length, full.same);
     say_number(exact.number as u64);
     say_number(short.number as u64);
+    say_number(unsound.number as u64);
     let whole = laws::and(line == 0, laws::and(full.number == 0, full.clean));
     let again = laws::and(
         exact.length == length,
         laws::and(exact.same == full.same, exact.clean),
     );
     let none = laws::and(short.length == 0, short.clean);
-    say_end(laws::and(whole, laws::and(again, none)));
+    let kept = laws::and(unsound.length == 0, unsound.clean);
+    say_end(laws::and(laws::and(whole, again), laws::and(none, kept)));
 }
 
 fn answer(text: &[u8]) {
