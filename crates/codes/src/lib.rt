@@ -1,7 +1,9 @@
 // Codes: the sixteen listed ones, the stocks' codes, and what stands behind each.
 ghost use mathlib.Core.Path.{_≡_};
 ghost use Rattle.laws.specs.Bytes.{sameBytes};
+ghost use Rattle.laws.specs.Order.{bytesOrder};
 ghost use Rattle.codes.specs.Codes.{productOf, namesStock, unlisted, stock, unknown, capital, known, isFutureClass, isOptionClass, isStockFuture, isStockOption, ownOption};
+use laws::Order;
 
 // What kind of product a code is.
 pub enum Class {
@@ -125,6 +127,15 @@ pub fn same_code(x: [u8; 3], y: [u8; 3]) -> bool
     laws::and(x[0] == y[0], laws::and(x[1] == y[1], x[2] == y[2]))
 }
 
+// The order of two codes by their bytes.
+pub fn compare_codes(x: [u8; 3], y: [u8; 3]) -> Order
+    ensures { λ r. ⌜ r ≡ bytesOrder x y ⌝ }
+{
+    let last = laws::order_of(x[2] as u64, y[2] as u64);
+    let later = laws::then_by(laws::order_of(x[1] as u64, y[1] as u64), last);
+    laws::then_by(laws::order_of(x[0] as u64, y[0] as u64), later)
+}
+
 fn is_capital(b: u8) -> bool
     ensures { λ r. ⌜ r ≡ capital b ⌝ }
 {
@@ -154,7 +165,7 @@ fn stock_code(class: Class, code: [u8; 3]) -> Product
 }
 
 // Whether two capitals name a stock.
-fn names_stock(code: [u8; 3]) -> bool
+pub fn names_stock(code: [u8; 3]) -> bool
     ensures { λ r. ⌜ r ≡ namesStock code ⌝ }
 {
     laws::and(is_capital(code[0]), is_capital(code[1]))
@@ -217,7 +228,7 @@ pub fn is_future_class(class: Class) -> bool
     }
 }
 
-fn is_stock_future(class: Class) -> bool
+pub fn is_stock_future(class: Class) -> bool
     ensures { λ r. ⌜ r ≡ isStockFuture class ⌝ }
 {
     match class {

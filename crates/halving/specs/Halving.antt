@@ -7,7 +7,8 @@ use Prim.Native.Nat.{ℕ, zero, suc, _+_, _-_, _/_, _<_, _≤_, min}
 use lib.Dec.{ltb}
 use lib.ListN.{getD, length}
 use Rattle.laws.specs.declared.Order.the-variants.{Less}
-use Rattle.laws.specs.Truth.{pick}
+use Rattle.laws.specs.Truth.{pick, both}
+use Rattle.laws.specs.Bytes.{sameBytes}
 use Rattle.laws.specs.Order.{isLess, bytesOrder}
 
 -- the key i, half by half
@@ -29,6 +30,13 @@ halved before (suc steps) low high =
 unfoldable pub placeOf : List ℕ → List ℕ → ℕ → List ℕ → ℕ
 placeOf highs lows count k =
     halved (λ (i : ℕ). isLess (bytesOrder (keyAt highs lows i) k)) (min count (min (length highs) (length lows))) 0 (min count (min (length highs) (length lows)))
+
+-- the place of the key k among them, or count where it does not stand there
+unfoldable pub findIn : List ℕ → List ℕ → ℕ → List ℕ → ℕ
+findIn highs lows count k =
+    pick (both (ltb (placeOf highs lows count k) (min count (min (length highs) (length lows)))) (sameBytes (keyAt highs lows (placeOf highs lows count k)) k))
+    (placeOf highs lows count k)
+    count
 
 -- Keys that rise, so many of them.
 pub record Rising (highs lows : List ℕ) (n : ℕ) : Type 0 where

@@ -1,19 +1,21 @@
 -- Laws of halving: its loop, and that it finds the place of a key among keys that rise.
 use mathlib.Core.Path.{_≡_, refl, ap, sym, _∙_, subst}
 use mathlib.Core.Bool.{Bool, true, false}
-use mathlib.Core.List.{List}
+use mathlib.Core.List.{List, [], _∷_}
 use Prim.Native.Nat.{ℕ, zero, suc, _+_, _-_, _<_, _≤_, min}
 use native.Mathlib.Omega.{arith}
 use native.Mathlib.Decide.{decLt}
 use borrow.Author.Tests.{lt-ltb, le-ltb, ltb-true, ltb-false}
 use lib.Dec.{ltb}
-use lib.ListN.{length}
+use lib.ListN.{getD, length}
 use Rattle.laws.specs.declared.Order.the-variants.{Less}
-use Rattle.laws.specs.Truth.{pick}
-use Rattle.laws.specs.TruthLaws.{by-test, picked, clash}
+use Rattle.laws.specs.Truth.{pick, both}
+use Rattle.laws.specs.TruthLaws.{both-true, by-test, picked, clash, false-unless}
+use Rattle.laws.specs.Bytes.{sameBytes}
+use Rattle.laws.specs.ByteLaws.{are-same, same-self}
 use Rattle.laws.specs.Order.{isLess, bytesOrder}
-use Rattle.laws.specs.OrderLaws.{text-before, is-less-says}
-use Rattle.halving.specs.Halving.{keyAt, middle, halved, placeOf, Rising, PlaceIs}
+use Rattle.laws.specs.OrderLaws.{text-before, not-before-self, is-less-says}
+use Rattle.halving.specs.Halving.{keyAt, middle, halved, placeOf, findIn, Rising, PlaceIs}
 
 -- Any number of steps that is not too small comes to the same place.
 module _ (before : ℕ → Bool) where
@@ -72,6 +74,30 @@ module _ {highs lows k : List ℕ} {w low high : ℕ} (a : AtHalf highs lows k w
 
   pub half-ends : high ≤ low → low ≡ w
   half-ends le = sym (a .goes ∙ stays _ (high - low) low high le)
+
+-- The key at the place that halving comes to, or that it is none.
+module _ (highs lows : List ℕ) (count high low : ℕ) {p top : ℕ} (is : p ≡ placeOf highs lows count (high ∷ low ∷ [])) (room : top ≡ min count (min (length highs) (length lows))) where
+  pub find-behind : top ≤ p → count ≡ findIn highs lows count (high ∷ low ∷ [])
+  unfolding findIn
+  find-behind le = rw (sym is, sym room, le-ltb p top le)
+
+  pub find-other : (sameBytes (keyAt highs lows p) (high ∷ low ∷ []) ≡ true → ⊥) → count ≡ findIn highs lows count (high ∷ low ∷ [])
+  unfolding findIn
+  find-other n = rw (sym is, sym room, false-unless _ n) (never (ltb p top))
+    where
+      never : (t : Bool) → count ≡ pick (both t false) p count
+      never true = refl
+      never false = refl
+
+  pub find-here : p < top → getD highs p 0 ≡ high → getD lows p 0 ≡ low → p ≡ findIn highs lows count (high ∷ low ∷ [])
+  unfolding findIn
+  find-here lt h l = rw (sym is, sym room, lt-ltb p top lt, h, l, same-self (high ∷ low ∷ []))
+
+  pub highs-differ : (getD highs p 0 ≡ high → ⊥) → count ≡ findIn highs lows count (high ∷ low ∷ [])
+  highs-differ n = find-other (λ e. n (ap (λ (l : List ℕ). getD l 0 0) (are-same (keyAt highs lows p) (high ∷ low ∷ []) e)))
+
+  pub lows-differ : (getD lows p 0 ≡ low → ⊥) → count ≡ findIn highs lows count (high ∷ low ∷ [])
+  lows-differ n = find-other (λ e. n (ap (λ (l : List ℕ). getD l 1 0) (are-same (keyAt highs lows p) (high ∷ low ∷ []) e)))
 
 -- Among keys that rise, the places below `low` are before the key and those from `high` on are not.
 record Between (highs lows : List ℕ) (n : ℕ) (k : List ℕ) (low high : ℕ) : Type 0 where
@@ -136,3 +162,41 @@ module _ {highs lows : List ℕ} {n : ℕ} (k : List ℕ) (s : Rising highs lows
       let l = s .lows-long in
       let e : min n (min (length highs) (length lows)) ≡ n = omega arith in
       rw e (comes-to n 0 n (omega arith) (record { apart = omega arith; inside = omega arith; below = λ i lt. absurd (omega arith); rest = λ i le lt. absurd (omega arith) }))
+
+  -- So a key that stands among them is found at its place.
+  pub find-at : (i : ℕ) → i < n → keyAt highs lows i ≡ k → findIn highs lows n k ≡ i
+  unfolding findIn
+  find-at i lt e =
+      let h = s .highs-long in
+      let l = s .lows-long in
+      let p = place-is in
+      let is : placeOf highs lows n k ≡ i = go (placeOf highs lows n k) p (decLt i (placeOf highs lows n k)) (decLt (placeOf highs lows n k) i) in
+      let top : min n (min (length highs) (length lows)) ≡ n = omega arith in
+      rw (is, top, lt-ltb i n lt, e, same-self k)
+    where
+      go : (r : ℕ) → PlaceIs highs lows n k r → Dec (i < r) → Dec (r < i) → r ≡ i
+      go r p (yes q) b = absurd (not-before-self k (subst (λ (z : List ℕ). bytesOrder z k ≡ Less) e (p .below i q)))
+      go r p (no q) (yes z) = absurd (p .rest r (omega arith) (omega arith) (subst (λ (w : List ℕ). bytesOrder (keyAt highs lows r) w ≡ Less) e (s .rising r i z lt)))
+      go r p (no q) (no z) = omega arith
+
+-- What is found is the key, and a key that none of them is, is not found.
+module _ (highs lows : List ℕ) (n : ℕ) (k : List ℕ) where
+  found-is : both (ltb (placeOf highs lows n k) (min n (min (length highs) (length lows)))) (sameBytes (keyAt highs lows (placeOf highs lows n k)) k) ≡ true → (placeOf highs lows n k < n) × (keyAt highs lows (placeOf highs lows n k) ≡ k)
+  found-is q =
+      let t = both-true (ltb (placeOf highs lows n k) (min n (min (length highs) (length lows)))) _ q in
+      let lt = ltb-true (placeOf highs lows n k) (min n (min (length highs) (length lows))) (t .0) in
+      (omega arith, are-same _ k (t .1))
+
+  pub find-says : findIn highs lows n k < n → keyAt highs lows (findIn highs lows n k) ≡ k
+  unfolding findIn
+  find-says =
+      picked (λ (r : ℕ). r < n → keyAt highs lows r ≡ k) _ (placeOf highs lows n k) n
+      (λ q lt. found-is q .1)
+      (λ q lt. absurd (omega arith))
+
+  pub find-none : ((i : ℕ) → i < n → keyAt highs lows i ≡ k → ⊥) → findIn highs lows n k ≡ n
+  unfolding findIn
+  find-none h =
+      picked (λ (r : ℕ). r ≡ n) _ (placeOf highs lows n k) n
+      (λ q. absurd (h (placeOf highs lows n k) (found-is q .0) (found-is q .1)))
+      (λ q. refl)

@@ -3,7 +3,7 @@ ghost use mathlib.Core.Path.{_≡_};
 ghost use mathlib.Core.List.{[], _∷_};
 ghost use Prim.Native.Nat.{min};
 ghost use Rattle.laws.specs.Order.{isLess, bytesOrder};
-ghost use Rattle.halving.specs.Halving.{placeOf};
+ghost use Rattle.halving.specs.Halving.{placeOf, findIn};
 
 fn lower(x: usize, y: usize) -> usize
     ensures { λ r. ⌜ r ≡ min x y ⌝ }
@@ -33,4 +33,21 @@ pub fn place_of(highs: &[u64], lows: &[u64], count: usize, high: u64, low: u64) 
         to = mid;
     }
     from
+}
+
+// The place of the key among the first `count`, if they rise; `count` where it does not stand there.
+pub fn find(highs: &[u64], lows: &[u64], count: usize, high: u64, low: u64) -> usize
+    ensures { λ r. ⌜ r ≡ findIn (now (highs .entry)) (now (lows .entry)) count (high ∷ low ∷ []) ⌝ }
+{
+    let place = place_of(highs, lows, count, high, low);
+    if lower(count, lower(highs.len(), lows.len())) <= place {
+        return count;
+    }
+    if highs[place] != high {
+        return count;
+    }
+    if lows[place] != low {
+        return count;
+    }
+    place
 }

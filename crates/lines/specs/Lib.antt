@@ -5,3 +5,4 @@ pub mod CutLaws
 pub mod CellLaws
 pub mod PartLaws
 pub mod FieldLaws
+pub mod LoopLaws

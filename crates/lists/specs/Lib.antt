@@ -2,6 +2,7 @@ pub mod Places
 pub mod PlaceLaws
 pub mod Sorted
 pub mod SortedLaws
+pub mod LastLaws
 pub mod SameLaws
 pub mod Slots
 pub mod SlotLaws

@@ -6,7 +6,7 @@ use native.Mathlib.Omega.{arith}
 use native.Mathlib.Numerals.{add-one}
 use native.Mathlib.Decide.{decLt}
 use lib.ListN.{getD, length, take, drop, set, replicate, length-take, length-append, length-drop, length-replicate, length-set, replicate-append-replicate, drop-of-length-le}
-use lib.Seq.{drop-cons, take-suc-set, drop-set-lt, append-snoc, take-at, drop-at, set-set, set-getD, getD-set-same, take-append-le, drop-append-le, take-length, drop-length, take-all, set-append-left}
+use lib.Seq.{drop-cons, take-suc-set, drop-set-lt, append-snoc, take-at, drop-at, set-set, set-getD, getD-set-same, take-append-le, drop-append-le, take-length, drop-length, take-all, set-append-left, set-at}
 use Rattle.lists.specs.Places.{insertAt, removeAt, full}
 
 module _ {A : Type 0} where
@@ -121,3 +121,11 @@ module _ {A : Type 0} where
   pub set-full : (n p : ℕ) (x d : A) (l : List A) → p < length l → set (full n d l) p x ≡ full n d (set l p x)
   unfolding full
   set-full n p x d l h = rw (set-append-left l (replicate (n - length l) d) p x h, length-set)
+
+  -- One row more behind the list, in the first of the empty rows.
+  pub set-end : (n : ℕ) (d x : A) (l : List A) → length l < n → set (full n d l) (length l) x ≡ full n d (l ++ (x ∷ []))
+  unfolding full
+  set-end n d x l lt =
+      let k : n - length l ≡ suc (n - (length l + 1)) = omega arith in
+      let m : n - length (l ++ (x ∷ [])) ≡ n - (length l + 1) = omega (arith, length-append l (x ∷ [])) in
+      rw (k, m) (set-at l d (replicate (n - (length l + 1)) d) x (length l) refl ∙ sym (append-snoc l x (replicate (n - (length l + 1)) d)))

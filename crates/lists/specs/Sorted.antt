@@ -3,6 +3,7 @@
 use mathlib.Core.Bool.{Bool, true, false}
 use mathlib.Core.List.{List, [], _∷_}
 use Prim.Native.Nat.{ℕ, _+_}
+use lib.Dec.{eqb}
 use Rattle.laws.specs.Truth.{pick, both, either}
 use Rattle.laws.specs.Bytes.{sameBytes}
 use Rattle.laws.specs.Search.{firstWhere}
@@ -23,6 +24,10 @@ module _ {A : Type 0} (rank : A → List ℕ) where
   unfoldable pub ascending : List A → Bool
   ascending [] = true
   ascending (x ∷ l) = ascendingFrom (rank x) l
+
+  -- x is after `last`, the last of n rows, if there are any
+  abbrev pub after : ℕ → A → A → Bool
+  after n last x = either (eqb n 0) (isLess (bytesOrder (rank last) (rank x)))
 
   -- a row of rank k stands in the list
   unfoldable pub stands : List ℕ → List A → Bool

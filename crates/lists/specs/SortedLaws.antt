@@ -29,7 +29,7 @@ after-differs x y e = false-unless (sameBytes x y) (λ q. not-before-self y (sub
 
 module _ {A : Type 0} (rank : A → List ℕ) where
   -- Rows after q are after all that is before q.
-  after-more : (p q : List ℕ) (l : List A) → bytesOrder p q ≡ Less → ascendingFrom rank q l ≡ true → ascendingFrom rank p l ≡ true
+  pub after-more : (p q : List ℕ) (l : List A) → bytesOrder p q ≡ Less → ascendingFrom rank q l ≡ true → ascendingFrom rank p l ≡ true
   unfolding ascendingFrom
   after-more p q [] h e = refl
   after-more p q (x ∷ l) h e =

@@ -4,11 +4,11 @@ use mathlib.Core.List.{List, [], _∷_, _++_}
 use Prim.Native.Nat.{ℕ, _+_, _-_, _*_, _%_}
 use lib.Dec.{leb, ltb, eqb}
 use lib.ListN.{getD, set}
-use Rattle.laws.specs.Truth.{pick, both, either}
+use Rattle.laws.specs.Truth.{pick, both}
 use Rattle.laws.specs.Bytes.{sameBytes}
 use Rattle.laws.specs.Text.{byte, bytes}
 use Rattle.laws.specs.Checks.{Check, _unless_, firstFailing}
-use Rattle.laws.specs.Order.{isLess, bytesOrder}
+use Rattle.lists.specs.Sorted.{after}
 use Rattle.dates.specs.Calendar.{isDay}
 use Rattle.codes.specs.Codes.{known}
 use Rattle.series.specs.declared.Series.{Series}
@@ -23,7 +23,7 @@ use Rattle.rows.specs.declared.Book.{Book}
 use Rattle.rows.specs.Rows.{holdingRank, pairRank, noLots}
 use Rattle.rows.specs.Book.{emptyBook}
 use Rattle.rules.specs.Rules.{isIdentity, countsFit}
-use Rattle.halving.specs.Halving.{keyAt, placeOf}
+use Rattle.halving.specs.Halving.{findIn}
 use Rattle.sound.specs.Walk.{halves}
 use Rattle.lines.specs.declared.Kind.{Kind}
 use Rattle.lines.specs.declared.Cell.{Cell}
@@ -43,10 +43,6 @@ fieldsFor letter = pick (eqb letter (byte "A")) 3 (pick (eqb letter (byte "H")) 
 
 unfoldable pub numberOfHead : List Cell → Bool → ℕ
 numberOfHead cs first = firstFailing (5 unless isDay (cell cs 2 .number) ∷ 2 unless isIdentity (cell cs 1 .number) ∷ 3 unless first ∷ [])
-
--- a row after the last of so many
-abbrev pub after : {A : Type 0} → (A → List ℕ) → ℕ → A → A → Bool
-after rank n last x = either (eqb n 0) (isLess (bytesOrder (rank last) (rank x)))
 
 unfoldable pub numberOfHolding : Holding → Holding → Bool → ℕ → ℕ → ℕ
 numberOfHolding h last first held paired =
@@ -99,9 +95,7 @@ slot row Short = 2 * row + 1
 
 unfoldable pub slotAt : List ℕ → List ℕ → ℕ → Series → Side → ℕ
 slotAt highs lows held s d =
-    pick (both (ltb (placeOf highs lows held (halves s)) held) (sameBytes (keyAt highs lows (placeOf highs lows held (halves s))) (halves s)))
-    (slot (placeOf highs lows held (halves s)) d)
-    256
+    pick (ltb (findIn highs lows held (halves s)) held) (slot (findIn highs lows held (halves s)) d) 256
 
 -- the slots of a pair's legs
 abbrev pub firstSlot : List ℕ → List ℕ → ℕ → Pair → ℕ

@@ -5,18 +5,15 @@ use mathlib.Core.List.{List, [], _∷_}
 use mathlib.Core.Logic.{_⊎_, inl, inr, ⊎-elim}
 use Prim.Native.Nat.{ℕ, suc, _-_, _^_, _<_, _≤_, min}
 use native.Mathlib.Omega.{arith}
-use native.Mathlib.Decide.{decLt}
-use borrow.Author.Tests.{lt-ltb, ltb-true}
+use borrow.Author.Tests.{lt-ltb, ltb-true, ltb-false}
 use lib.Dec.{ltb}
 use lib.ListN.{getD, length, set, length-take, List·getD-eq-default}
 use lib.Seq.{getD-take, getD-set-same, getD-set-other}
-use Rattle.laws.specs.declared.Order.the-variants.{Less}
 use Rattle.laws.specs.Truth.{pick, both}
 use Rattle.laws.specs.TruthLaws.{by-test, both-true, both-hold, clash, false-unless}
 use Rattle.laws.specs.Bytes.{sameBytes}
-use Rattle.laws.specs.ByteLaws.{are-same, same-self}
-use Rattle.laws.specs.Order.{bytesOrder, join}
-use Rattle.laws.specs.OrderLaws.{not-before-self}
+use Rattle.laws.specs.ByteLaws.{are-same}
+use Rattle.laws.specs.Order.{join}
 use Rattle.laws.specs.SearchLaws.{every-at}
 use Rattle.lists.specs.Sorted.{stands}
 use Rattle.lists.specs.SortedLaws.{look-none, look-at}
@@ -35,8 +32,8 @@ use Rattle.rules.specs.Lots.{Leg, sameSide, ties, tied, total}
 use Rattle.rules.specs.LotLaws.{new-lots, one-rank, same-to-itself, same-side, same-sides}
 use Rattle.rules.specs.RuleLaws.{holdings-good, holdings-order, holdings-count, holding-is}
 use Rattle.rules.specs.Rules.{goodHolding}
-use Rattle.halving.specs.Halving.{keyAt, placeOf, Rising, PlaceIs}
-use Rattle.halving.specs.HalvingLaws.{place-is}
+use Rattle.halving.specs.Halving.{keyAt, findIn, Rising}
+use Rattle.halving.specs.HalvingLaws.{find-at, find-says}
 use Rattle.sound.specs.Walk.{noRow, halves, Keyed}
 use Rattle.sound.specs.KeyedLaws.{rising-keys}
 use Rattle.calls.specs.PairedLaws.{one-series}
@@ -93,23 +90,15 @@ module _ {b : Book} {highs lows : List ℕ} (s : Sound b) (keyed : Keyed noRow (
         one-series (row i .series) t (row-good i lt) good (λ j. join (2 ^ 40) (h j) (l j))
 
     abbrev place : ℕ
-    place = placeOf highs lows (b .held) (halves t)
+    place = findIn highs lows (b .held) (halves t)
 
-    -- The series' row is at the place that halving comes to.
+    -- The series' row is at the place that halving finds.
     found-there : (i : ℕ) → i < b .held → row i .series ≡ t → place ≡ i
-    found-there i lt e =
-        let p = place-is (halves t) rising in
-        let k : keyAt highs lows i ≡ halves t = key-is i lt ∙ ap halves e in
-        go (decLt i place) (decLt place i) p k
-      where
-        go : Dec (i < place) → Dec (place < i) → PlaceIs highs lows (b .held) (halves t) place → keyAt highs lows i ≡ halves t → place ≡ i
-        go (yes q) r p k = absurd (not-before-self (halves t) (subst (λ (l : List ℕ). bytesOrder l (halves t) ≡ Less) k (p .below i q)))
-        go (no q) (yes r) p k = absurd (p .rest place (omega arith) (omega arith) (subst (λ (l : List ℕ). bytesOrder (keyAt highs lows place) l ≡ Less) k (rising .rising place i r lt)))
-        go (no q) (no r) p k = omega arith
+    found-there i lt e = find-at (halves t) rising i lt (key-is i lt ∙ ap halves e)
 
     there : (d : Side) (i : ℕ) → i < b .held → row i .series ≡ t → slotAt highs lows (b .held) t d ≡ slot i d
     unfolding slotAt
-    there d i lt e = let k : keyAt highs lows i ≡ halves t = key-is i lt ∙ ap halves e in rw (found-there i lt e, lt-ltb i (b .held) lt, k, same-self (halves t))
+    there d i lt e = rw (found-there i lt e, lt-ltb i (b .held) lt)
 
     -- A series is held in a row, whose slot it has; or in none, and its slot is behind all.
     record HeldAt (i : ℕ) : Type 0 where
@@ -124,18 +113,14 @@ module _ {b : Book} {highs lows : List ℕ} (s : Sound b) (keyed : Keyed noRow (
     held-or-not : (HeldAt place) ⊎ NotHeld
     unfolding slotAt
     held-or-not =
-        by-test (λ (x : Bool). both (ltb place (b .held)) (sameBytes (keyAt highs lows place) (halves t)) ≡ x → (HeldAt place) ⊎ NotHeld) (both (ltb place (b .held)) (sameBytes (keyAt highs lows place) (halves t)))
+        by-test (λ (x : Bool). ltb place (b .held) ≡ x → (HeldAt place) ⊎ NotHeld) (ltb place (b .held))
         (λ q e.
-        let h = both-true (ltb place (b .held)) _ e in
-        let lt = ltb-true place (b .held) (h .0) in
-        let is = row-is place lt (are-same (keyAt highs lows place) (halves t) (h .1)) in
+        let lt = ltb-true place (b .held) e in
+        let is = row-is place lt (find-says highs lows (b .held) (halves t) lt) in
         inl (record { inside = lt; is = is; at = λ d. there d place lt is }))
         (λ q e.
-        inr
-        (record {
-          nowhere = λ i lt is. clash (both-hold (lt-ltb place (b .held) (let p = found-there i lt is in omega arith)) (rw (found-there i lt is, key-is i lt, is) (same-self (halves t)))) e;
-          behind = λ d. rw e;
-        }))
+        let le = ltb-false place (b .held) e in
+        inr (record { nowhere = λ i lt is. let z = found-there i lt is in omega arith; behind = λ d. rw e }))
         refl
 
     -- The lots of the series: those of its row, or none.

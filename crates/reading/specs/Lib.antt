@@ -7,7 +7,6 @@ pub mod PassLaws
 pub mod FormLaws
 pub mod KeepLaws
 pub mod TurnLaws
-pub mod LastLaws
 pub mod SlotLaws
 pub mod FreeLaws
 pub mod StateLaws

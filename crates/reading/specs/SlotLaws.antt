@@ -1,49 +1,35 @@
 -- Laws of where free lots stand: the search for a series' row, and lots taken.
-use mathlib.Core.Path.{_≡_, ap, sym, _∙_, subst}
+use mathlib.Core.Path.{_≡_, ap, sym, subst}
 use mathlib.Core.Bool.{Bool, true, false, not}
 use mathlib.Core.List.{List, [], _∷_}
 use Prim.Native.Nat.{ℕ, _-_, _*_, _<_, _≤_}
 use native.Mathlib.Omega.{arith}
-use borrow.Author.Tests.{lt-ltb, le-ltb, eq-eqb, ne-eqb}
+use borrow.Author.Tests.{lt-ltb, le-ltb}
 use lib.Dec.{leb}
 use lib.ListN.{getD, set}
 use Rattle.laws.specs.Truth.{both}
 use Rattle.laws.specs.TruthLaws.{failed, passed}
-use Rattle.laws.specs.Bytes.{sameBytes}
 use Rattle.series.specs.declared.Halves.{Halves}
 use Rattle.series.specs.declared.Series.{Series}
 use Rattle.series.specs.declared.Side.{Side}
 use Rattle.series.specs.Key.{highKey, natureKey, halvesOf}
 use Rattle.pairing.specs.Sides.{firstSide, secondSide}
 use Rattle.rows.specs.declared.Pair.{Pair}
-use Rattle.halving.specs.Halving.{placeOf}
+use Rattle.halving.specs.Halving.{findIn}
 use Rattle.reading.specs.Facts.{slot, slotAt, legsFound, lessAt, legsTaken}
 
 -- The search, by the two halves of the series' key.
-module _ (highs lows : List ℕ) (held : ℕ) (s : Series) (d : Side) {k : Halves} {r : ℕ} (is : k ≡ halvesOf s) (at : r ≡ placeOf highs lows held (k .high ∷ k .low ∷ [])) where
-  place : placeOf highs lows held (highKey s ∷ natureKey (s .nature) ∷ []) ≡ r
-  place = sym (subst (λ (z : Halves). r ≡ placeOf highs lows held (z .high ∷ z .low ∷ [])) is at)
+module _ (highs lows : List ℕ) (held : ℕ) (s : Series) (d : Side) {k : Halves} {r : ℕ} (is : k ≡ halvesOf s) (at : r ≡ findIn highs lows held (k .high ∷ k .low ∷ [])) where
+  place : findIn highs lows held (highKey s ∷ natureKey (s .nature) ∷ []) ≡ r
+  place = sym (subst (λ (z : Halves). r ≡ findIn highs lows held (z .high ∷ z .low ∷ [])) is at)
 
   pub slot-behind : held ≤ r → 256 ≡ slotAt highs lows held s d
   unfolding slotAt
   slot-behind le = rw (place, le-ltb r held le)
 
-  module _ (lt : r < held) where
-    pub slot-high : (getD highs r 0 ≡ k .high → ⊥) → 256 ≡ slotAt highs lows held s d
-    unfolding slotAt sameBytes
-    slot-high n = rw (place, lt-ltb r held lt, ne-eqb (getD highs r 0) (highKey s) (λ e. n (e ∙ sym (ap (λ (z : Halves). z .high) is))))
-
-    module _ (high : getD highs r 0 ≡ k .high) where
-      same-high : getD highs r 0 ≡ highKey s
-      same-high = high ∙ ap (λ (z : Halves). z .high) is
-
-      pub slot-low : (getD lows r 0 ≡ k .low → ⊥) → 256 ≡ slotAt highs lows held s d
-      unfolding slotAt sameBytes
-      slot-low n = rw (place, lt-ltb r held lt, eq-eqb (getD highs r 0) (highKey s) same-high, ne-eqb (getD lows r 0) (natureKey (s .nature)) (λ e. n (e ∙ sym (ap (λ (z : Halves). z .low) is))))
-
-      pub slot-found : {x : ℕ} → getD lows r 0 ≡ k .low → x ≡ slot r d → x ≡ slotAt highs lows held s d
-      unfolding slotAt sameBytes
-      slot-found low e = rw (place, lt-ltb r held lt, eq-eqb (getD highs r 0) (highKey s) same-high, eq-eqb (getD lows r 0) (natureKey (s .nature)) (low ∙ ap (λ (z : Halves). z .low) is)) e
+  pub slot-found : {x : ℕ} → r < held → x ≡ slot r d → x ≡ slotAt highs lows held s d
+  unfolding slotAt
+  slot-found lt e = rw (place, lt-ltb r held lt) e
 
 -- Lots taken at a place are never less than 0.
 pub take-all-lots : (l : List ℕ) (x n : ℕ) → getD l x 0 < n → set l x 0 ≡ set l x (getD l x 0 - n)

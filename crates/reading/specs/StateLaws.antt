@@ -1,22 +1,24 @@
 -- Laws of what goes along with the book from line to line: the keys and free lots of its holdings, and what stood in the line before.
 use mathlib.Core.Path.{_≡_, refl, ap, sym, _∙_, subst}
-use mathlib.Core.Bool.{Bool, true, not}
+use mathlib.Core.Bool.{Bool, true}
 use mathlib.Core.List.{List, [], _∷_, _++_}
-use Prim.Native.Nat.{ℕ, suc, _+_, _-_, _*_, _%_, _<_, _≤_}
+use Prim.Native.Nat.{ℕ, _+_, _-_, _*_, _%_, _<_, _≤_}
 use native.Mathlib.Omega.{arith}
 use native.Mathlib.Decide.{decLt}
 use native.Mathlib.Numerals.{add-one}
 use borrow.Author.Tests.{eqb-false}
 use lib.Dec.{leb, eqb}
-use lib.ListN.{getD, length, take, set, replicate, length-set, length-append}
-use lib.Seq.{append-snoc, take-suc-set, getD-take, getD-set-same, getD-set-other, set-at}
+use lib.ListN.{getD, length, take, set, length-set, length-append}
+use lib.Seq.{take-suc-set, getD-take, getD-set-same, getD-set-other}
 use Rattle.laws.specs.Truth.{pick, both, either}
 use Rattle.laws.specs.TruthLaws.{by-test}
 use Rattle.laws.specs.Checks.{firstFailing, orElse}
 use Rattle.laws.specs.Order.{isLess, bytesOrder}
 use Rattle.lists.specs.Places.{full}
-use Rattle.lists.specs.Sorted.{ascending, sumOf}
+use Rattle.lists.specs.PlaceLaws.{set-end}
+use Rattle.lists.specs.Sorted.{ascending, after, sumOf}
 use Rattle.lists.specs.SortedLaws.{sum-joined}
+use Rattle.lists.specs.LastLaws.{ascends-after}
 use Rattle.series.specs.declared.Series.{Series}
 use Rattle.series.specs.declared.Side.{Side}
 use Rattle.series.specs.declared.Side.the-variants.{Long, Short}
@@ -38,9 +40,9 @@ use Rattle.sound.specs.WalkLaws.{rows-long, noPair}
 use Rattle.calls.specs.Calls.{legFree}
 use Rattle.lines.specs.declared.Cell.{Cell}
 use Rattle.reading.specs.Reading.{holding, pair, cell, headIn, holdingIn, pairIn, lineChecks, withLine}
-use Rattle.reading.specs.Facts.{after, numberOfPair, numberFor, headBook, slot, firstSlot, secondSlot, legsFound, lessAt, lessLegs}
+use Rattle.reading.specs.Facts.{numberOfPair, numberFor, headBook, slot, firstSlot, secondSlot, legsFound, lessAt, lessLegs}
 use Rattle.reading.specs.Next.{NextHolding, NextPair}
-use Rattle.reading.specs.LastLaws.{ascends-after, head-number-is, holding-number-of, pair-number-of}
+use Rattle.reading.specs.NumberLaws.{head-number-is, holding-number-of, pair-number-of}
 use Rattle.reading.specs.FreeLaws.{slot-has, leg-takes}
 
 -- What goes along with the book b.
@@ -110,13 +112,6 @@ module _ {b : Book} {highs lows free : List ℕ} {before : List Cell} (a : Along
         pair-number-of first b (pairIn cells) (pairIn before) (after-pairs (pairIn cells)) ∙ ap (λ (n : ℕ). orElse n (pick (both (legFree b (firstLeg (pairIn cells))) (legFree b (secondLeg (pairIn cells)))) 0 9)) (sym e)
 
 -- Rows in an array with one more at the end of the live ones.
-set-end : {A : Type 0} (n : ℕ) (d x : A) (l : List A) → length l < n → set (full n d l) (length l) x ≡ full n d (l ++ (x ∷ []))
-unfolding full
-set-end n d x l lt =
-    let k : n - length l ≡ suc (n - (length l + 1)) = omega arith in
-    let m : n - length (l ++ (x ∷ [])) ≡ n - (length l + 1) = omega (arith, length-append l (x ∷ [])) in
-    rw (k, m) (set-at l d (replicate (n - (length l + 1)) d) x (length l) refl ∙ sym (append-snoc l x (replicate (n - (length l + 1)) d)))
-
 row-more : {A : Type 0} {empty : A} {good : A → Bool} {rank : A → List ℕ} {n : ℕ} {rows : List A} (x : A) → SoundRows empty good rank n rows → n < 128 → (set rows n x ≡ full 128 empty (take n rows ++ (x ∷ []))) × (n + 1 ≡ length (take n rows ++ (x ∷ [])))
 row-more {A} {empty} {good} {rank} {n} {rows} x s lt =
     let c = s .counted in

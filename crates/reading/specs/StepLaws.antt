@@ -12,6 +12,7 @@ use Rattle.laws.specs.Truth.{pick, both}
 use Rattle.laws.specs.TruthLaws.{by-test, both-true, false-unless}
 use Rattle.laws.specs.Checks.{firstFailing, allPass}
 use Rattle.laws.specs.CheckLaws.{none-fails, accepted as no-failure, or-number, pass-both}
+use Rattle.lists.specs.Sorted.{after}
 use Rattle.dates.specs.Calendar.{isDay}
 use Rattle.codes.specs.Codes.{known}
 use Rattle.series.specs.Checks.{suits, classOf, goodSeries}
@@ -30,18 +31,19 @@ use Rattle.calls.specs.CallLaws.{no-book-sound}
 use Rattle.lines.specs.declared.Kind.{Kind}
 use Rattle.lines.specs.declared.Kind.the-variants.{Nothing}
 use Rattle.lines.specs.declared.Cell.{Cell}
-use Rattle.lines.specs.Parts.{tab, lf, one, more, splitOn, nextOf}
+use Rattle.lines.specs.Parts.{tab, lf, more, splitOn, nextOf}
 use Rattle.lines.specs.Fields.{cellOf}
-use Rattle.lines.specs.CutLaws.{next-low, next-high, part-more, part-last, fieldsBehind}
+use Rattle.lines.specs.CutLaws.{next-low, next-high, part-more, part-last}
+use Rattle.lines.specs.LoopLaws.{InFields, row-bad, cell-room, fields-on}
 use Rattle.reading.specs.declared.Answer.{Answer}
 use Rattle.reading.specs.Reading.{Line, holding, pair, formless, headIn, holdingIn, pairIn, lineOf, lineChecks, withLine, refusedAt, accepted, readLines, readText}
-use Rattle.reading.specs.Facts.{letterIn, formFor, fieldsFor, after, pairChecksButLots, numberOfPair, numberFor, headBook, legsFound, legsTaken}
+use Rattle.reading.specs.Facts.{letterIn, formFor, fieldsFor, pairChecksButLots, numberOfPair, numberFor, headBook, legsFound, legsTaken}
 use Rattle.reading.specs.Next.{NextHolding, accountOf}
 use Rattle.reading.specs.PassLaws.{line-numbered, head-passes, holding-passes, pair-passes}
 use Rattle.reading.specs.FormLaws.{line-account}
 use Rattle.reading.specs.KeepLaws.{line-keeps}
-use Rattle.reading.specs.TurnLaws.{saidBy, by-letters, form-few, AtField, fields-start, field-bad, field-room, field-read, line-formless, line-wrong, line-right, letter-known}
-use Rattle.reading.specs.LastLaws.{but-lots-numbered}
+use Rattle.reading.specs.TurnLaws.{saidBy, by-letters, form-few, line-formless, line-wrong, line-right, letter-known}
+use Rattle.reading.specs.NumberLaws.{but-lots-numbered}
 use Rattle.reading.specs.StateLaws.{Along, along-empty, head-number, holding-number, pair-number, head-book-is, holding-book-is, holding-along, pair-book-is, pair-along, legs-are-free}
 
 -- what comes of the text t
@@ -60,13 +62,6 @@ unfolding noBook emptyBook bookOf
 lines-start t highs lows free before is h l f =
     subst (λ (b : Book). AtLine t b highs lows free before 0 0) (sym is)
     (record { along = along-empty noBook highs lows free before no-book-sound refl refl h l f; low = omega arith; few = omega arith; goes = refl })
-
--- The place that a search ends at is inside the text.
-pub ends-low : (t : List ℕ) (at c : ℕ) {end : ℕ} → end ≡ nextOf t at c → at ≤ end
-ends-low t at c e = let h = next-low t at c in omega arith
-
-pub ends-high : (t : List ℕ) (at c : ℕ) {end : ℕ} → end ≡ nextOf t at c → at ≤ length t → end ≤ length t
-ends-high t at c e low = let h = next-high t at c low in omega arith
 
 -- The loop is in a line, of which the row is all but its LF.
 pub record AtRow (t : List ℕ) (b : Book) (highs lows free : List ℕ) (before : List Cell) (line at end : ℕ) (row : List ℕ) : Type 0 where
@@ -269,12 +264,8 @@ module _ {t : List ℕ} {b : Book} {highs lows free : List ℕ} {before : List C
       first-passes = first-pass (pairIn cells) (pairIn before) (eqb (line - 1) 0) (b .paired) (sym (worked ∙ rw is-pair) ∙ zero-is)
 
       -- what the legs ask for
-      pub legs-ask : {p : Pair} → p ≡ pairIn cells → (Counts (p .r1) (p .r2) (p .units)) × ((b .held ≤ 128) × ((b .held ≤ length highs) × (b .held ≤ length lows)))
-      legs-ask is =
-          let few = along .sound .holdings-sound .few in
-          let h = along .highs-long in
-          let l = along .lows-long in
-          (rw is (first-passes .counts), (few, (omega arith, omega arith)))
+      pub legs-ask : {p : Pair} → p ≡ pairIn cells → (Counts (p .r1) (p .r2) (p .units)) × (b .held ≤ 128)
+      legs-ask is = (rw is (first-passes .counts), along .sound .holdings-sound .few)
 
       module _ {p : Pair} {enough : Bool} {free' : List ℕ} (is : p ≡ pairIn cells) (legs : (enough ≡ legsFound highs lows free (b .held) p) × (free' ≡ legsTaken highs lows free (b .held) p)) where
         found-is : enough ≡ legsFound highs lows free (b .held) (pairIn cells)
@@ -297,39 +288,28 @@ module _ {t : List ℕ} {b : Book} {highs lows free : List ℕ} {before : List C
             rw (legs .1, is, found)
             (next-line (says-pair is-pair) all (pair-book-is along cells next) (pair-along along cells next (keeps (says-pair is-pair) all)))
 
--- The loop is among the fields of a line's row: its letter is read, and so many of its fields.
+-- The loop is among the fields of a line's row.
 pub record InRow (t : List ℕ) (b : Book) (highs lows free : List ℕ) (before : List Cell) (line at end : ℕ) (row : List ℕ) (first letter : ℕ) (cells : List Cell) (k stop : ℕ) : Type 0 where
   pub at-row : AtRow t b highs lows free before line at end row
-  pub first-is : first ≡ nextOf row 0 tab
-  pub letter-is : letter ≡ letterIn (take (first - 0) (drop 0 row))
-  pub fields : AtField row (formFor letter) (fieldsBehind row first) cells k stop
-
-pub in-row-starts : {t : List ℕ} {b : Book} {highs lows free : List ℕ} {before : List Cell} {line at end : ℕ} {row : List ℕ} {first letter : ℕ} (cells : List Cell) → AtRow t b highs lows free before line at end row → first ≡ nextOf row 0 tab → letter ≡ letterIn (take (first - 0) (drop 0 row)) → length cells ≡ 12 → InRow t b highs lows free before line at end row first letter cells 0 first
-in-row-starts {row = row} {letter = letter} cells a f l long = record { at-row = a; first-is = f; letter-is = l; fields = fields-start row (formFor letter) cells f long }
+  pub fields : InFields letterIn formFor 12 row first letter cells k stop
 
 module _ {t : List ℕ} {b : Book} {highs lows free : List ℕ} {before : List Cell} {line at end : ℕ} {row : List ℕ} {first letter : ℕ} {cells : List Cell} {k stop : ℕ} (a : InRow t b highs lows free before line at end row first letter cells k stop) where
   module _ (lt : stop < length row) {next : ℕ} (is : next ≡ nextOf row (stop + 1) tab) {kind : Kind} {c : Cell} (kind-is : kind ≡ getD (formFor letter) k Nothing) (cell-is : c ≡ cellOf kind (take (next - (stop + 1)) (drop (stop + 1) row))) where
-    whole : c ≡ cellOf (getD (formFor letter) k Nothing) (take (next - (stop + 1)) (drop (stop + 1) row))
-    whole = cell-is ∙ ap (λ (z : Kind). cellOf z (take (next - (stop + 1)) (drop (stop + 1) row))) kind-is
-
-    pub field-less : length row - next < length row - stop
-    field-less = let low = ends-low row (stop + 1) tab is in omega arith
-
     -- A field without its form.
     pub field-refused : not (c .right) ≡ true → refusedAt 1 line ≡ answerOf t
-    field-refused e = row-formless (a .at-row) (line-formless row (a .first-is) (a .letter-is) (field-bad (a .fields) lt is whole e))
+    field-refused e = row-formless (a .at-row) (line-formless (a .fields) (row-bad (a .fields) lt is kind-is cell-is e))
 
     module _ (e : not (c .right) ≡ false) where
-      pub cell-room : k < 12
-      cell-room = field-room (a .fields) lt is whole e (form-few letter)
+      pub cell-fits : k < 12
+      cell-fits = cell-room (a .fields) lt is kind-is cell-is (form-few letter) e
 
       pub in-row-on : InRow t b highs lows free before line at end row first letter (set cells k c) (k + 1) next
-      in-row-on = record { at-row = a .at-row; first-is = a .first-is; letter-is = a .letter-is; fields = field-read (a .fields) lt is whole e (form-few letter) }
+      in-row-on = record { at-row = a .at-row; fields = fields-on (a .fields) lt is kind-is cell-is (form-few letter) e }
 
   -- Behind the last field.
   module _ (done : length row ≤ stop) {fields : ℕ} (fields-is : fields ≡ fieldsFor letter) where
     pub fields-refused : (k ≡ fields → ⊥) → refusedAt 1 line ≡ answerOf t
-    fields-refused n = row-formless (a .at-row) (line-wrong row (a .first-is) (a .letter-is) (a .fields) done (λ e. n (e ∙ sym fields-is)))
+    fields-refused n = row-formless (a .at-row) (line-wrong (a .fields) done (λ e. n (e ∙ sym fields-is)))
 
     -- The line has the form.
     pub row-said : {number : ℕ} → k ≡ fields → number ≡ numberFor letter cells before (eqb line 1) (b .held) (b .paired) → SaidRow t b highs lows free before line at end letter cells number
@@ -337,8 +317,8 @@ module _ {t : List ℕ} {b : Book} {highs lows free : List ℕ} {before : List C
         record {
           row = row;
           at-row = a .at-row;
-          says = line-right row (a .first-is) (a .letter-is) (a .fields) done (e ∙ fields-is);
-          known-letter = letter-known row (a .first-is) (a .letter-is) (a .fields) done (e ∙ fields-is);
+          says = line-right (a .fields) done (e ∙ fields-is);
+          known-letter = letter-known (a .fields) done (e ∙ fields-is);
           number-is = is;
         }
 

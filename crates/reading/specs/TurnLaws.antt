@@ -1,27 +1,23 @@
--- Laws of a line's form: the loop over its fields, and what the line says by its letter.
+-- Laws of a line's form: what the line says by its letter, once its fields are read.
 use mathlib.Core.Path.{_≡_, refl, ap, sym, _∙_, subst}
-use mathlib.Core.Bool.{Bool, true, false, not}
-use mathlib.Core.List.{List, [], _∷_, _++_, append-nil}
-use Prim.Native.Nat.{ℕ, _+_, _-_, _<_, _≤_}
+use mathlib.Core.Bool.{Bool, true, false}
+use mathlib.Core.List.{List, []}
+use Prim.Native.Nat.{ℕ, _-_, _≤_}
 use native.Mathlib.Omega.{arith}
-use native.Mathlib.Decide.{decLt}
-use native.Mathlib.Numerals.{add-one}
 use borrow.Author.Tests.{ne-eqb, eqb-true, eqb-false}
 use lib.Dec.{eqb}
-use lib.ListN.{getD, length, take, drop, set, length-set, drop-of-length-le, List·getD-eq-default}
-use lib.Seq.{append-snoc, drop-cons, getD-take, take-all, take-suc-set}
+use lib.ListN.{length, take, drop}
+use lib.Seq.{getD-take, take-all}
 use Rattle.laws.specs.Truth.{pick, both}
-use Rattle.laws.specs.TruthLaws.{by-test, clash, failed, passed}
+use Rattle.laws.specs.TruthLaws.{by-test}
 use Rattle.laws.specs.Bytes.{sameBytes}
 use Rattle.laws.specs.ByteLaws.{are-same}
 use Rattle.laws.specs.Text.{byte, bytes}
-use Rattle.lines.specs.declared.Kind.{Kind}
-use Rattle.lines.specs.declared.Kind.the-variants.{Nothing}
 use Rattle.lines.specs.declared.Cell.{Cell}
-use Rattle.lines.specs.Parts.{tab, nextOf}
-use Rattle.lines.specs.Fields.{cellOf, hasForm, cellsOf}
-use Rattle.lines.specs.CutLaws.{next-high, fieldsBehind, field-next, field-more, field-none}
-use Rattle.reading.specs.Reading.{Line, head, holding, pair, formless, headForm, holdingForm, pairForm, headIn, holdingIn, pairIn, lineIn, lineFrom, lineOf}
+use Rattle.lines.specs.Fields.{hasForm, cellsOf}
+use Rattle.lines.specs.CutLaws.{fieldsBehind}
+use Rattle.lines.specs.LoopLaws.{InFields, row-fields, row-wrong, row-done}
+use Rattle.reading.specs.Reading.{Line, holding, pair, formless, headForm, holdingForm, pairForm, headIn, holdingIn, pairIn, lineIn, lineFrom, lineOf}
 use Rattle.reading.specs.Facts.{letterIn, formFor, fieldsFor}
 
 -- What a line of a letter says by its cells, if it has the form.
@@ -66,76 +62,6 @@ form-few letter =
     (λ q. omega arith)
     (λ q. by-test (λ (m : Bool). length (pick m pairForm []) ≤ 12) (eqb letter (byte "M")) (λ q. omega arith) (λ q. omega arith)))
 
--- The loop over the fields fs behind the letter: k of them are read, and the last of these ends at `stop`.
-pub record AtField (row : List ℕ) (form : List Kind) (fs : List (List ℕ)) (cells : List Cell) (k stop : ℕ) : Type 0 where
-  pub low : stop ≤ length row
-  pub few : k ≤ length form
-  pub long : length cells ≡ 12
-  pub formed : hasForm form fs ≡ hasForm (drop k form) (fieldsBehind row stop)
-  pub read : take k cells ++ cellsOf (drop k form) (fieldsBehind row stop) ≡ cellsOf form fs
-
-pub fields-start : (row : List ℕ) (form : List Kind) (cells : List Cell) {stop : ℕ} → stop ≡ nextOf row 0 tab → length cells ≡ 12 → AtField row form (fieldsBehind row stop) cells 0 stop
-fields-start row form cells {stop} is long =
-    let high = next-high row 0 tab (omega arith) in
-    record { low = omega arith; few = omega arith; long = long; formed = refl; read = refl }
-
-module _ {row : List ℕ} {form : List Kind} {fs : List (List ℕ)} {cells : List Cell} {k stop : ℕ} (a : AtField row form fs cells k stop) where
-  module _ (lt : stop < length row) {next : ℕ} (is : next ≡ nextOf row (stop + 1) tab) {c : Cell} (cell-is : c ≡ cellOf (getD form k Nothing) (take (next - (stop + 1)) (drop (stop + 1) row))) where
-    next-field : fieldsBehind row stop ≡ take (next - (stop + 1)) (drop (stop + 1) row) ∷ fieldsBehind row next
-    next-field = field-more row lt ∙ field-next row (stop + 1) (omega arith) is
-
-    -- A field without its form: the line has not the form.
-    pub field-bad : not (c .right) ≡ true → hasForm form fs ≡ false
-    unfolding hasForm
-    field-bad e = a .formed ∙ rw next-field (go (decLt k (length form)))
-      where
-        go : Dec (k < length form) → hasForm (drop k form) (take (next - (stop + 1)) (drop (stop + 1) row) ∷ fieldsBehind row next) ≡ false
-        go (yes q) = rw (drop-cons form k Nothing q) (rw (failed (ap (λ (z : Cell). z .right) cell-is) e))
-        go (no q) = let le : length form ≤ k = omega arith in rw (drop-of-length-le form le)
-
-    module _ (e : not (c .right) ≡ false) where
-      -- A field with its form is one that the form asks for.
-      inside : k < length form
-      unfolding cellOf
-      inside = go (decLt k (length form))
-        where
-          go : Dec (k < length form) → k < length form
-          go (yes q) = q
-          go (no q) =
-              let le : length form ≤ k = omega arith in
-              absurd (clash (passed (ap (λ (z : Cell). z .right) cell-is) e) (ap (λ (kind : Kind). cellOf kind (take (next - (stop + 1)) (drop (stop + 1) row)) .right) (List·getD-eq-default form Nothing le)))
-
-      pub field-room : length form ≤ 12 → k < 12
-      field-room few = let h = inside in omega arith
-
-      pub field-read : length form ≤ 12 → AtField row form fs (set cells k c) (k + 1) next
-      unfolding hasForm cellsOf
-      field-read few =
-          let h = inside in
-          let long = a .long in
-          let high = next-high row (stop + 1) tab (omega arith) in
-          record {
-            low = omega arith;
-            few = omega arith;
-            long = simp length-set long;
-            formed = a .formed ∙ rw (next-field, drop-cons form k Nothing h, passed (ap (λ (z : Cell). z .right) cell-is) e, add-one k);
-            read =
-                rw (add-one k, take-suc-set cells k c (omega arith), append-snoc)
-                (rw (next-field, drop-cons form k Nothing h, ← cell-is) at (a .read));
-          }
-
-  -- Behind the last field.
-  module _ (end : length row ≤ stop) where
-    pub fields-wrong : (k ≡ length form → ⊥) → hasForm form fs ≡ false
-    unfolding hasForm
-    fields-wrong n = let few = a .few in a .formed ∙ rw (field-none row end, drop-cons form k Nothing (omega arith))
-
-    pub fields-done : k ≡ length form → (hasForm form fs ≡ true) × (take k cells ≡ cellsOf form fs)
-    unfolding hasForm cellsOf
-    fields-done e =
-        let le : length form ≤ k = omega arith in
-        (a .formed ∙ rw (field-none row end, drop-of-length-le form le), sym (append-nil (take k cells)) ∙ rw (field-none row end, drop-of-length-le form le) at (a .read))
-
 -- what a cell behind the end would be
 abbrev none : Cell
 none = record { right = false; number = 0; code = [] }
@@ -168,24 +94,24 @@ holding-taken cs =
     rw (getD-take 6 cs 0 none (omega arith), getD-take 6 cs 1 none (omega arith), getD-take 6 cs 2 none (omega arith), getD-take 6 cs 3 none (omega arith), getD-take 6 cs 4 none (omega arith), getD-take 6 cs 5 none (omega arith))
 
 -- What a line says, once its letter and its fields are read.
-module _ (row : List ℕ) {stop letter : ℕ} (is : stop ≡ nextOf row 0 tab) (letter-is : letter ≡ letterIn (take (stop - 0) (drop 0 row))) where
-  line-is : lineOf row ≡ pick (hasForm (formFor letter) (fieldsBehind row stop)) (saidBy letter (cellsOf (formFor letter) (fieldsBehind row stop))) formless
+module _ {row : List ℕ} {first letter : ℕ} {cells : List Cell} {k stop : ℕ} (a : InFields letterIn formFor 12 row first letter cells k stop) where
+  line-is : lineOf row ≡ pick (hasForm (formFor letter) (fieldsBehind row first)) (saidBy letter (cellsOf (formFor letter) (fieldsBehind row first))) formless
   unfolding lineOf lineFrom
-  line-is = rw (field-next row 0 (omega arith) is) (subst (λ (l : ℕ). lineIn (take (stop - 0) (drop 0 row)) (fieldsBehind row stop) ≡ pick (hasForm (formFor l) (fieldsBehind row stop)) (saidBy l (cellsOf (formFor l) (fieldsBehind row stop))) formless) (sym letter-is) (by-letter (take (stop - 0) (drop 0 row)) (fieldsBehind row stop)))
+  line-is = rw (row-fields row (a .first-is)) (subst (λ (l : ℕ). lineIn (take (first - 0) (drop 0 row)) (fieldsBehind row first) ≡ pick (hasForm (formFor l) (fieldsBehind row first)) (saidBy l (cellsOf (formFor l) (fieldsBehind row first))) formless) (sym (a .letter-is)) (by-letter (take (first - 0) (drop 0 row)) (fieldsBehind row first)))
 
-  pub line-formless : hasForm (formFor letter) (fieldsBehind row stop) ≡ false → lineOf row ≡ formless
+  pub line-formless : hasForm (formFor letter) (fieldsBehind row first) ≡ false → lineOf row ≡ formless
   line-formless e = line-is ∙ rw e
 
-  module _ {cells : List Cell} {k end : ℕ} (a : AtField row (formFor letter) (fieldsBehind row stop) cells k end) (done : length row ≤ end) where
+  module _ (done : length row ≤ stop) where
     -- Too few fields, or no letter of a book.
     pub line-wrong : (k ≡ fieldsFor letter → ⊥) → lineOf row ≡ formless
     unfolding fieldsFor formFor headForm holdingForm pairForm saidBy
     line-wrong n =
         by-letters letter (lineOf row ≡ formless)
-        (λ e. line-formless (fields-wrong a done (λ z. n (z ∙ rw e))))
-        (λ e. line-formless (fields-wrong a done (λ z. n (z ∙ rw e))))
-        (λ e. line-formless (fields-wrong a done (λ z. n (z ∙ rw e))))
-        (λ x y z. line-is ∙ rw (ne-eqb letter 65 x, ne-eqb letter 72 y, ne-eqb letter 77 z) (never (hasForm [] (fieldsBehind row stop))))
+        (λ e. line-formless (row-wrong a done (λ z. n (z ∙ rw e))))
+        (λ e. line-formless (row-wrong a done (λ z. n (z ∙ rw e))))
+        (λ e. line-formless (row-wrong a done (λ z. n (z ∙ rw e))))
+        (λ x y z. line-is ∙ rw (ne-eqb letter 65 x, ne-eqb letter 72 y, ne-eqb letter 77 z) (never (hasForm [] (fieldsBehind row first))))
       where
         never : (t : Bool) → pick t formless formless ≡ formless
         never true = refl
@@ -195,7 +121,7 @@ module _ (row : List ℕ) {stop letter : ℕ} (is : stop ≡ nextOf row 0 tab) (
     pub letter-known : k ≡ fieldsFor letter → (letter ≡ 65 → ⊥) → (letter ≡ 72 → ⊥) → (letter ≡ 77 → ⊥) → ⊥
     unfolding fieldsFor
     letter-known e x y z =
-        let few = a .few in
+        let few = a .fields .few in
         let f = form-few letter in
         let n : k ≡ 13 = e ∙ rw (ne-eqb letter 65 x, ne-eqb letter 72 y, ne-eqb letter 77 z) in
         omega arith
@@ -205,7 +131,7 @@ module _ (row : List ℕ) {stop letter : ℕ} (is : stop ≡ nextOf row 0 tab) (
     unfolding fieldsFor formFor headForm holdingForm pairForm saidBy
     line-right e =
         by-letters letter (lineOf row ≡ saidBy letter cells)
-        (λ l. let n : k ≡ 3 = e ∙ rw l in let d = fields-done a done (n ∙ rw l) in line-is ∙ rw (d .0) (rw (sym (d .1), n, l) (head-taken cells)))
-        (λ l. let n : k ≡ 6 = e ∙ rw l in let d = fields-done a done (n ∙ rw l) in line-is ∙ rw (d .0) (rw (sym (d .1), n, l) (ap holding (holding-taken cells))))
-        (λ l. let n : k ≡ 12 = e ∙ rw l in let d = fields-done a done (n ∙ rw l) in line-is ∙ rw (d .0) (rw (sym (d .1), n, l) (ap pair (ap pairIn (take-all 12 cells (let long = a .long in omega arith))))))
+        (λ l. let n : k ≡ 3 = e ∙ rw l in let d = row-done a done (n ∙ rw l) in line-is ∙ rw (d .0) (rw (sym (d .1), n, l) (head-taken cells)))
+        (λ l. let n : k ≡ 6 = e ∙ rw l in let d = row-done a done (n ∙ rw l) in line-is ∙ rw (d .0) (rw (sym (d .1), n, l) (ap holding (holding-taken cells))))
+        (λ l. let n : k ≡ 12 = e ∙ rw l in let d = row-done a done (n ∙ rw l) in line-is ∙ rw (d .0) (rw (sym (d .1), n, l) (ap pair (ap pairIn (take-all 12 cells (let long = a .fields .long in omega arith))))))
         (λ x y z. absurd (letter-known e x y z))

@@ -278,18 +278,12 @@ fn slot_in(row: usize, side: Side) -> usize
 
 // Where the free lots of a series and side stand; 256 where it is not held.
 fn slot_of(highs: &[u64], lows: &[u64], held: usize, s: Series, side: Side) -> usize
-    requires { ⌜ (held ≤ 128) × ((held ≤ length (now highs)) × (held ≤ length (now lows))) ⌝ }
+    requires { ⌜ held ≤ 128 ⌝ }
     ensures { λ r. ⌜ r ≡ slotAt (now (highs .entry)) (now (lows .entry)) held s side ⌝ }
 {
     let k = series::halves_of(s);
-    let row = halving::place_of(highs, lows, held, k.high, k.low);
+    let row = halving::find(highs, lows, held, k.high, k.low);
     if held <= row {
-        return 256;
-    }
-    if highs[row] != k.high {
-        return 256;
-    }
-    if lows[row] != k.low {
         return 256;
     }
     slot_in(row, side)
@@ -329,7 +323,7 @@ fn take_lots(free: &mut [u32], x: usize, lots: u32)
 
 // Whether both legs of a pair find their lots free; each takes its own then.
 fn take_legs(highs: &[u64], lows: &[u64], free: &mut [u32], held: usize, p: Pair) -> bool
-    requires { ⌜ (Counts (p .r1) (p .r2) (p .units)) × ((held ≤ 128) × ((held ≤ length (now highs)) × (held ≤ length (now lows)))) ⌝ }
+    requires { ⌜ (Counts (p .r1) (p .r2) (p .units)) × (held ≤ 128) ⌝ }
     ensures { λ r. ⌜ (r ≡ legsFound (now (highs .entry)) (now (lows .entry)) (now (free .entry)) held p) × (now (free .exit) ≡ legsTaken (now (highs .entry)) (now (lows .entry)) (now (free .entry)) held p) ⌝ }
 {
     let first = p.first;

@@ -39,7 +39,7 @@ fn strike_fits(strike: u32) -> bool
 }
 
 // Whether the nature suits the code, with an option's strike in its range.
-fn nature_suits(class: Class, nature: Nature) -> bool
+pub fn nature_suits(class: Class, nature: Nature) -> bool
     ensures { λ r. ⌜ r ≡ suits class nature ⌝ }
 {
     match nature {

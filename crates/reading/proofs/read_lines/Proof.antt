@@ -4,7 +4,8 @@ use native.Mathlib.Omega.{arith}
 use borrow.Author.Needs.{needs}
 use lib.ListN.{length, length-replicate}
 use Rattle.rows.specs.Book.{noBook}
-use Rattle.reading.specs.StepLaws.{AtLine, lines-start, lines-end, line-unended, ends-low, ends-high, row-begins, number-refused, line-less, line-fits, InRow, in-row-starts, field-less, field-refused, cell-room, in-row-on, fields-refused, row-said, head-next, holding-room, entry-asks, holding-next, first-passes, legs-ask, pair-refused, pair-next}
+use Rattle.lines.specs.LoopLaws.{ends-low, ends-high, fields-begin, field-less}
+use Rattle.reading.specs.StepLaws.{AtLine, lines-start, lines-end, line-unended, row-begins, number-refused, line-less, line-fits, InRow, field-refused, cell-fits, in-row-on, fields-refused, row-said, head-next, holding-room, entry-asks, holding-next, first-passes, legs-ask, pair-refused, pair-next}
 use Rattle.reading.proofs.read_lines.Statement.{statement}
 use Rattle.reading.proofs.read_lines.Tie as tie
 
@@ -39,7 +40,7 @@ part-letter-of-end c = ends-high _ _ _ (c .next2 .ensures) (omega arith)
 fields-holds : tie.Need-fields-holds Inv-fields μ-fields Inv-lines μ-lines
 fields-holds c =
     let n = c .before .before .before .before .before in
-    in-row-starts _ (row-begins (n .before .before .lines .inv) (n .before .if1 .left) (n .next .ensures) (c .before .before .before .before .if2 .left)) (c .before .before .next2 .ensures) (c .letter-of .ensures) (length-replicate 12 (c .before .before .before .before .before .before .before .before .before .no-cell .result))
+    record { at-row = row-begins (n .before .before .lines .inv) (n .before .if1 .left) (n .next .ensures) (c .before .before .before .before .if2 .left); fields = fields-begin _ _ (c .before .before .next2 .ensures) (c .letter-of .ensures) (length-replicate 12 (c .before .before .before .before .before .before .before .before .before .no-cell .result)) }
 
 sub-cell-of : tie.Need-sub-cell-of Inv-fields μ-fields Inv-lines μ-lines
 sub-cell-of c = ends-low _ _ _ (c .before .next3 .ensures)
@@ -51,16 +52,16 @@ part-cell-of-end : tie.Need-part-cell-of-end Inv-fields μ-fields Inv-lines μ-l
 part-cell-of-end c = let lt = c .before .before .fields-test .taken in ends-high _ _ _ (c .before .next3 .ensures) (omega arith)
 
 mul-cells : tie.Need-mul-cells Inv-fields μ-fields Inv-lines μ-lines
-mul-cells c = let room = cell-room (c .before .before .before .before .before .before .before .fields .inv) (c .before .before .before .before .before .before .fields-test .taken) (c .before .before .before .before .before .next3 .ensures) (c .before .before .before .before .kind-at .ensures) (c .before .before .cell-of .ensures) (c .if3 .left) in omega (arith, room)
+mul-cells c = let room = cell-fits (c .before .before .before .before .before .before .before .fields .inv) (c .before .before .before .before .before .before .fields-test .taken) (c .before .before .before .before .before .next3 .ensures) (c .before .before .before .before .kind-at .ensures) (c .before .before .cell-of .ensures) (c .if3 .left) in omega (arith, room)
 
 array-set-from-cells : tie.Need-array-set-from-cells Inv-fields μ-fields Inv-lines μ-lines
-array-set-from-cells c = cell-room (c .before .before .before .before .before .before .before .fields .inv) (c .before .before .before .before .before .before .fields-test .taken) (c .before .before .before .before .before .next3 .ensures) (c .before .before .before .before .kind-at .ensures) (c .before .before .cell-of .ensures) (c .if3 .left)
+array-set-from-cells c = cell-fits (c .before .before .before .before .before .before .before .fields .inv) (c .before .before .before .before .before .before .fields-test .taken) (c .before .before .before .before .before .next3 .ensures) (c .before .before .before .before .kind-at .ensures) (c .before .before .cell-of .ensures) (c .if3 .left)
 
 add-k : tie.Need-add-k Inv-fields μ-fields Inv-lines μ-lines
-add-k c = let room = cell-room (c .before .before .before .before .before .before .before .fields .inv) (c .before .before .before .before .before .before .fields-test .taken) (c .before .before .before .before .before .next3 .ensures) (c .before .before .before .before .kind-at .ensures) (c .before .before .cell-of .ensures) (c .if3 .left) in omega (arith, room)
+add-k c = let room = cell-fits (c .before .before .before .before .before .before .before .fields .inv) (c .before .before .before .before .before .before .fields-test .taken) (c .before .before .before .before .before .next3 .ensures) (c .before .before .before .before .kind-at .ensures) (c .before .before .cell-of .ensures) (c .if3 .left) in omega (arith, room)
 
 fields-less : tie.Need-fields-less Inv-fields μ-fields Inv-lines μ-lines
-fields-less c = field-less (c .before .before .before .before .before .before .before .fields .inv) (c .before .before .before .before .before .before .fields-test .taken) (c .before .before .before .before .before .next3 .ensures) (c .before .before .before .before .kind-at .ensures) (c .before .before .cell-of .ensures)
+fields-less c = field-less (c .before .before .before .before .before .before .before .fields .inv .fields) (c .before .before .before .before .before .before .fields-test .taken) (c .before .before .before .before .before .next3 .ensures) (c .before .before .before .before .kind-at .ensures) (c .before .before .cell-of .ensures)
 
 fields-again : tie.Need-fields-again Inv-fields μ-fields Inv-lines μ-lines
 fields-again c = in-row-on (c .before .before .before .before .before .before .before .fields .inv) (c .before .before .before .before .before .before .fields-test .taken) (c .before .before .before .before .before .next3 .ensures) (c .before .before .before .before .kind-at .ensures) (c .before .before .cell-of .ensures) (c .if3 .left)

@@ -1,0 +1,32 @@
+-- What the parts of the reader ask and answer: how many fields a letter has, its group, and a line's number behind the line before it
+-- (document 01, "Text").
+use mathlib.Core.List.{List}
+use Prim.Native.Nat.{ℕ}
+use lib.Dec.{eqb}
+use Rattle.laws.specs.Truth.{pick}
+use Rattle.laws.specs.Text.{byte}
+use Rattle.laws.specs.Checks.{firstFailing}
+use Rattle.laws.specs.Order.{isLess, bytesOrder}
+use Rattle.lines.specs.declared.Cell.{Cell}
+use Rattle.checking.specs.Lines.{said, rank, checksBy}
+
+unfoldable pub fieldsFor : ℕ → ℕ
+fieldsFor letter =
+    pick (eqb letter (byte "D")) 1
+    (pick (eqb letter (byte "F")) 2
+    (pick (eqb letter (byte "O")) 12
+    (pick (eqb letter (byte "S")) 9
+    (pick (eqb letter (byte "Q")) 5 13))))
+
+unfoldable pub groupFor : ℕ → ℕ
+groupFor letter =
+    pick (eqb letter (byte "D")) 1
+    (pick (eqb letter (byte "F")) 2
+    (pick (eqb letter (byte "O")) 3
+    (pick (eqb letter (byte "S")) 4
+    (pick (eqb letter (byte "Q")) 5 0))))
+
+-- a line's number, where the line before it, if any, had the letter `last` and the cells `before`
+unfoldable pub numberFor : ℕ → List Cell → ℕ → List Cell → ℕ
+numberFor letter cs last before =
+    firstFailing (checksBy (eqb last 0) (isLess (bytesOrder (rank (said last before)) (rank (said letter cs)))) (said letter cs))

@@ -1,0 +1,10 @@
+pub mod Lines
+pub mod Reading
+pub mod Facts
+pub mod NumberLaws
+pub mod Next
+pub mod GroupLaws
+pub mod RowLaws
+pub mod SheetLaws
+pub mod TurnLaws
+pub mod StepLaws

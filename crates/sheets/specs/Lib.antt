@@ -1,0 +1,5 @@
+pub mod Rows
+pub mod Sheet
+pub mod PlaceLaws
+pub mod TableLaws
+pub mod LookupLaws
