@@ -8,14 +8,13 @@ use native.Mathlib.Omega.{arith}
 use lib.ListN.{length}
 use Rattle.laws.specs.declared.Order.the-variants.{Less}
 use Rattle.laws.specs.TruthLaws.{both-true, both-hold}
-use Rattle.laws.specs.Search.{everyLine}
+use Rattle.laws.specs.Search.{everyLine, gathered}
 use Rattle.laws.specs.SearchLaws.{every-joined}
 use Rattle.laws.specs.Order.{isLess, bytesOrder}
 use Rattle.laws.specs.OrderLaws.{is-same, is-less-says}
 use Rattle.lists.specs.Sorted.{ascending, ascendingFrom, stands}
 use Rattle.lists.specs.SortedLaws.{after-more, ascending-rest}
 use Rattle.lists.specs.LastLaws.{last-new}
-use Rattle.checking.specs.Reading.{gathered}
 
 -- One line more.
 module _ {A B : Type 0} (f : A → List B) where

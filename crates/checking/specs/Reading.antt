@@ -5,6 +5,7 @@ use Prim.Native.Nat.{ℕ, suc}
 use lib.Dec.{leb, ltb, eqb}
 use lib.ListN.{length}
 use Rattle.laws.specs.Truth.{pick}
+use Rattle.laws.specs.Search.{gathered}
 use Rattle.laws.specs.Checks.{firstFailing, allPass}
 use Rattle.lines.specs.Parts.{lf, Parts, one, more, splitOn}
 use Rattle.sheets.specs.declared.FutureRow.{FutureRow}
@@ -18,11 +19,6 @@ use Rattle.checking.specs.declared.Verdict.{Verdict}
 use Rattle.checking.specs.Lines.{Line, head, future, option, stock, price, formless, lineOf, lineChecks}
 
 -- The rows that lines say, group by group.
-
--- what each line gives, in their order
-unfoldable pub gathered : {A B : Type 0} → (A → List B) → List A → List B
-gathered f [] = []
-gathered f (x ∷ l) = f x ++ gathered f l
 
 unfoldable pub futureRow : Line → List FutureRow
 futureRow (head day) = []

@@ -13,7 +13,7 @@ use Rattle.laws.specs.TruthLaws.{both-true, both-hold, clash}
 use Rattle.laws.specs.ByteLaws.{same-self}
 use Rattle.laws.specs.Checks.{allPass}
 use Rattle.laws.specs.CheckLaws.{pass-both}
-use Rattle.laws.specs.Search.{everyLine}
+use Rattle.laws.specs.Search.{everyLine, gathered}
 use Rattle.laws.specs.SearchLaws.{every-joined}
 use Rattle.laws.specs.Order.{orderOf, bytesOrder}
 use Rattle.laws.specs.OrderLaws.{apart}
@@ -39,7 +39,7 @@ use Rattle.sheets.specs.Rows.{noRows, futureCodes, optionCodes, found, nothing,
 use Rattle.sheets.specs.Sheet.{futurePlace, optionPlace, laidOut}
 use Rattle.sheets.specs.TableLaws.{futures-differ, options-differ, table-set, found-last, found-others}
 use Rattle.checking.specs.Lines.{Line, head, future, option, stock, price, formless, rank, among, twoCapitals, isQuoted, ownChecks, isHead, checksBy, lineChecks}
-use Rattle.checking.specs.Reading.{gathered, futureRow, optionRow, stockRow, priceRow, dayOf, rowsOf}
+use Rattle.checking.specs.Reading.{futureRow, optionRow, stockRow, priceRow, dayOf, rowsOf}
 use Rattle.checking.specs.Next.{Good, goodFuture, goodOption, goodStock, goodPrice, withDay, withFutures, withOptions, withStocks, withPrices}
 use Rattle.checking.specs.GroupLaws.{gathered-more, gathered-every, Gives, none, row, gathered-fewer, gathered-ascends, row-new}
 

@@ -24,7 +24,8 @@ use Rattle.sheets.specs.Rows.{noRows, clearingIn, indexIn, stockIn, priceIn}
 use Rattle.sheets.specs.Sheet.{laidOut, clearingOn, indexOn, stockOn, priceOn}
 use Rattle.sheets.specs.LookupLaws.{Ordered, clearing-found, index-found, stock-found, price-found}
 use Rattle.checking.specs.Lines.{Line, lineOf, twoCapitals, lineChecks}
-use Rattle.checking.specs.Reading.{gathered, futureRow, optionRow, stockRow, priceRow, rowsOf, Judged, refusedAt, accepted, judgeLines, judged, sheetOf, readText, checkText}
+use Rattle.laws.specs.Search.{gathered}
+use Rattle.checking.specs.Reading.{futureRow, optionRow, stockRow, priceRow, rowsOf, Judged, refusedAt, accepted, judgeLines, judged, sheetOf, readText, checkText}
 use Rattle.checking.specs.Next.{Good, goodFuture, goodOption, goodStock, goodPrice, wellLines, wellText, linesIn}
 use Rattle.checking.specs.NumberLaws.{line-numbered}
 use Rattle.checking.specs.RowLaws.{no-lines, none-good, more-good, stocks-fewer, prices-fewer, futures-good, options-good, stocks-ascend, stocks-good, prices-ascend, prices-good}

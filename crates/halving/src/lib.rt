@@ -19,7 +19,7 @@ fn is_before(high: u64, low: u64, other: u64, lower: u64) -> bool
 }
 
 // The place among the first `count` keys where they stop being before the key, if they rise.
-pub fn place_of(highs: &[u64], lows: &[u64], count: usize, high: u64, low: u64) -> usize
+pub fn place_of<'a>(highs: &'a [u64], lows: &'a [u64], count: usize, high: u64, low: u64) -> usize
     ensures { λ r. ⌜ r ≡ placeOf (now (highs .entry)) (now (lows .entry)) count (high ∷ low ∷ []) ⌝ }
 {
     let mut from: usize = 0;
@@ -36,7 +36,7 @@ pub fn place_of(highs: &[u64], lows: &[u64], count: usize, high: u64, low: u64) 
 }
 
 // The place of the key among the first `count`, if they rise; `count` where it does not stand there.
-pub fn find(highs: &[u64], lows: &[u64], count: usize, high: u64, low: u64) -> usize
+pub fn find<'a>(highs: &'a [u64], lows: &'a [u64], count: usize, high: u64, low: u64) -> usize
     ensures { λ r. ⌜ r ≡ findIn (now (highs .entry)) (now (lows .entry)) count (high ∷ low ∷ []) ⌝ }
 {
     let place = place_of(highs, lows, count, high, low);

@@ -1,5 +1,5 @@
 -- Laws of the search of a table: those by which a loop finds the line, and what is known of what is found.
-use mathlib.Core.Path.{_≡_, refl}
+use mathlib.Core.Path.{_≡_, refl, sym, ap, _∙_}
 use mathlib.Core.Bool.{Bool, true, false}
 use mathlib.Core.List.{List, [], _∷_, _++_}
 use Prim.Native.Nat.{ℕ, zero, suc, _+_, _≤_, _<_}
@@ -8,7 +8,8 @@ use native.Mathlib.Numerals.{add-one}
 use lib.ListN.{getD, drop, length, drop-of-length-le}
 use lib.Seq.{drop-cons}
 use Rattle.laws.specs.TruthLaws.{both-true, both-hold, picked}
-use Rattle.laws.specs.Search.{firstWhere, everyLine}
+use Rattle.laws.specs.Truth.{both}
+use Rattle.laws.specs.Search.{firstWhere, everyLine, gathered}
 
 -- A loop over a table has come to line i, and what it seeks is w.
 pub record Searching {A B : Type 0} (named : A → Bool) (made : A → B) (none w : B) (ls : List A) (i : ℕ) : Type 0 where
@@ -71,3 +72,19 @@ pub every-behind : {A : Type 0} (test : A → Bool) (ls ms : List A) → everyLi
 unfolding everyLine
 every-behind test [] ms e = e
 every-behind test (l ∷ ls) ms e = every-behind test ls ms (both-true (test l) (everyLine test (ls ++ ms)) e .1)
+
+-- A test of two tables as one is the test of both, and a test of all that lines give is that of what each gives.
+both-first : (a b c : Bool) → both a (both b c) ≡ both (both a b) c
+both-first true b c = refl
+both-first false b c = refl
+
+module _ {A : Type 0} (test : A → Bool) where
+  pub every-append : (ls ms : List A) → everyLine test (ls ++ ms) ≡ both (everyLine test ls) (everyLine test ms)
+  unfolding everyLine
+  every-append [] ms = refl
+  every-append (l ∷ ls) ms = ap (both (test l)) (every-append ls ms) ∙ both-first (test l) (everyLine test ls) (everyLine test ms)
+
+  pub every-gathered : {B : Type 0} (f : B → List A) (ls : List B) → everyLine test (gathered f ls) ≡ everyLine (λ (l : B). everyLine test (f l)) ls
+  unfolding everyLine gathered
+  every-gathered f [] = refl
+  every-gathered f (l ∷ ls) = every-append (f l) (gathered f ls) ∙ ap (both (everyLine test (f l))) (every-gathered f ls)

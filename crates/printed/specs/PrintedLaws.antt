@@ -106,18 +106,18 @@ series-laid s l k a b c p = fields-then _ _ a (fields-then _ _ b (fields-then _ 
 
 -- How long fields, lines and rows can be.
 
-field-fits : {m n : ℕ} (f : List ℕ) (fs : List (List ℕ)) → length f ≤ m → length (tabbed fs) ≤ n → length (tabbed (f ∷ fs)) ≤ suc (m + n)
+pub field-fits : {m n : ℕ} (f : List ℕ) (fs : List (List ℕ)) → length f ≤ m → length (tabbed fs) ≤ n → length (tabbed (f ∷ fs)) ≤ suc (m + n)
 unfolding tabbed
 field-fits f fs h k = rw (length-append f (tabbed fs)) (omega arith)
 
-last-fits : {m : ℕ} (f : List ℕ) → length f ≤ m → length (tabbed (f ∷ [])) ≤ suc m
+pub last-fits : {m : ℕ} (f : List ℕ) → length f ≤ m → length (tabbed (f ∷ [])) ≤ suc m
 unfolding tabbed
 last-fits f h = rw (append-nil f) (omega arith)
 
 fields-fit : {m n : ℕ} (fs gs : List (List ℕ)) → length (tabbed fs) ≤ m → length (tabbed gs) ≤ n → length (tabbed (fs ++ gs)) ≤ m + n
 fields-fit fs gs h k = rw (tabbed-two fs gs, length-append (tabbed fs) (tabbed gs)) (omega arith)
 
-line-fits : {n : ℕ} (letter : ℕ) (fs : List (List ℕ)) → length (tabbed fs) ≤ n → length (lineText letter fs) ≤ n + 2
+pub line-fits : {n : ℕ} (letter : ℕ) (fs : List (List ℕ)) → length (tabbed fs) ≤ n → length (lineText letter fs) ≤ n + 2
 unfolding lineText
 line-fits letter fs h = rw (length-append (tabbed fs) (lf ∷ [])) (omega arith)
 
@@ -128,7 +128,7 @@ letters-few code t =
     (λ _. rw (length-take 2 code) (omega arith))
     (λ _. omega (arith, t .three))
 
-fixed-few : (w n : ℕ) → length (fixed w n) ≤ w
+pub fixed-few : (w n : ℕ) → length (fixed w n) ≤ w
 fixed-few w n = omega (arith, length-fixed w n)
 
 series-fits : (s : Series) → goodSeries s ≡ true → length (tabbed (seriesFields s)) ≤ 26

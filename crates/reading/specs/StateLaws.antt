@@ -34,9 +34,9 @@ use Rattle.rules.specs.Facts.{SoundRows, Sound}
 use Rattle.rules.specs.Lots.{firstLeg, secondLeg, ties, tied, tiedBy, free as freeLots}
 use Rattle.rules.specs.Rules.{isIdentity}
 use Rattle.rules.specs.RuleLaws.{holdings-count, holdings-order, pairs-count, pairs-order, pair-is, identity-between}
-use Rattle.sound.specs.Walk.{noRow, Keyed}
+use Rattle.sound.specs.Walk.{noRow, noPair, Keyed}
 use Rattle.sound.specs.KeyedLaws.{keyed-starts, keyed-next}
-use Rattle.sound.specs.WalkLaws.{rows-long, noPair}
+use Rattle.sound.specs.WalkLaws.{rows-long}
 use Rattle.calls.specs.Calls.{legFree}
 use Rattle.lines.specs.declared.Cell.{Cell}
 use Rattle.reading.specs.Reading.{holding, pair, cell, headIn, holdingIn, pairIn, lineChecks, withLine}

@@ -277,7 +277,7 @@ fn slot_in(row: usize, side: Side) -> usize
 }
 
 // Where the free lots of a series and side stand; 256 where it is not held.
-fn slot_of(highs: &[u64], lows: &[u64], held: usize, s: Series, side: Side) -> usize
+fn slot_of<'a>(highs: &'a [u64], lows: &'a [u64], held: usize, s: Series, side: Side) -> usize
     requires { ⌜ held ≤ 128 ⌝ }
     ensures { λ r. ⌜ r ≡ slotAt (now (highs .entry)) (now (lows .entry)) held s side ⌝ }
 {
@@ -322,7 +322,7 @@ fn take_lots(free: &mut [u32], x: usize, lots: u32)
 }
 
 // Whether both legs of a pair find their lots free; each takes its own then.
-fn take_legs(highs: &[u64], lows: &[u64], free: &mut [u32], held: usize, p: Pair) -> bool
+fn take_legs<'a>(highs: &'a [u64], lows: &'a [u64], free: &mut [u32], held: usize, p: Pair) -> bool
     requires { ⌜ (Counts (p .r1) (p .r2) (p .units)) × (held ≤ 128) ⌝ }
     ensures { λ r. ⌜ (r ≡ legsFound (now (highs .entry)) (now (lows .entry)) (now (free .entry)) held p) × (now (free .exit) ≡ legsTaken (now (highs .entry)) (now (lows .entry)) (now (free .entry)) held p) ⌝ }
 {

@@ -83,7 +83,7 @@ module _ {A B : Type 0} (named : A → Bool) (made : A → B) (none : B) (d : A)
 
 -- What an array with room says: of each row what is made of it, then of none.
 module _ {A B : Type 0} (f : A → B) (e : B) (d : A) where
-  map-says : (l : List A) (i : ℕ) → i < length l → getD (map f l) i e ≡ f (getD l i d)
+  pub map-says : (l : List A) (i : ℕ) → i < length l → getD (map f l) i e ≡ f (getD l i d)
   map-says [] i lt = absurd (omega arith)
   map-says (x ∷ l) zero lt = refl
   map-says (x ∷ l) (suc i) lt = map-says l i (omega arith)

@@ -86,7 +86,7 @@ fn no_index() -> IndexLine
     }
 }
 
-fn no_stock() -> StockLine
+pub fn no_stock() -> StockLine
     ensures { λ r. ⌜ r ≡ noStock ⌝ }
 {
     StockLine {
@@ -174,7 +174,7 @@ pub fn option_place(code: [u8; 3]) -> usize
 }
 
 // The place of a stock, by its two letters and a 0 byte, among the first `count` rows; `count` where it has no row.
-pub fn stock_place(firsts: &[u64], seconds: &[u64], count: usize, code: [u8; 3]) -> usize
+pub fn stock_place<'a>(firsts: &'a [u64], seconds: &'a [u64], count: usize, code: [u8; 3]) -> usize
     ensures { λ r. ⌜ r ≡ stockAt (now (firsts .entry)) (now (seconds .entry)) count code ⌝ }
 {
     if code[2] != 0 {
@@ -194,7 +194,13 @@ fn amount_at(amounts: &[u32], place: usize) -> u32
 }
 
 // The price of a series among the first `count` rows.
-pub fn price_of(highs: &[u64], lows: &[u64], prices: &[u32], count: usize, s: Series) -> Found
+pub fn price_of<'a>(
+    highs: &'a [u64],
+    lows: &'a [u64],
+    prices: &'a [u32],
+    count: usize,
+    s: Series,
+) -> Found
     ensures { λ r. ⌜ r ≡ priceAt (now (highs .entry)) (now (lows .entry)) (now (prices .entry)) count s ⌝ }
 {
     let k = series::halves_of(s);
@@ -203,4 +209,25 @@ pub fn price_of(highs: &[u64], lows: &[u64], prices: &[u32], count: usize, s: Se
         return no_amount();
     }
     some_amount(amount_at(prices, place))
+}
+
+// What the F rows say of a code, and the O rows.
+pub fn clearing_of(futures: [Found; 8], code: [u8; 3]) -> Found
+    ensures { λ r. ⌜ r ≡ getD futures (futurePlace code) nothing ⌝ }
+{
+    let place = future_place(code);
+    if place < 8 {
+        return futures[place];
+    }
+    no_amount()
+}
+
+pub fn index_of(options: [IndexLine; 4], code: [u8; 3]) -> IndexLine
+    ensures { λ r. ⌜ r ≡ getD options (optionPlace code) noIndex ⌝ }
+{
+    let place = option_place(code);
+    if place < 4 {
+        return options[place];
+    }
+    no_index()
 }

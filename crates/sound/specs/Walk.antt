@@ -17,9 +17,12 @@ use Rattle.rules.specs.Rules.{goodHolding, goodPair}
 use Rattle.rules.specs.Facts.{SoundRows}
 use Rattle.sound.specs.declared.Taken.{Taken}
 
--- what a row behind the end would be
+-- what rows behind the end would be
 abbrev pub noRow : Holding
 noRow = record { series = record { code = []; date = 0; nature = Future }; long = 0; short = 0 }
+
+abbrev pub noPair : Pair
+noPair = record { kind = 0; first = noRow .series; second = noRow .series; r1 = 0; r2 = 0; units = 0 }
 
 abbrev pub halves : Series → List ℕ
 halves s = highKey s ∷ natureKey (s .nature) ∷ []

@@ -40,7 +40,7 @@ use Rattle.rules.specs.LotLaws.{legsOf, takenFrom, takes, covers, afterLegs, ta
 use Rattle.halving.specs.Halving.{Rising, PlaceIs}
 use Rattle.sound.specs.declared.Taken.{Taken}
 use Rattle.sound.specs.Checked.{notSound, checkedAs}
-use Rattle.sound.specs.Walk.{noRow, halves, Keyed, Walkable, takenLots}
+use Rattle.sound.specs.Walk.{noRow, noPair, halves, Keyed, Walkable, takenLots}
 use Rattle.sound.specs.KeyedLaws.{keyed-fewer, key-order, rising-keys}
 
 rank-same : (h : Holding) (s : Series) → holdingRank h ≡ seriesRank s → sameSeries (h .series) s ≡ true
@@ -157,10 +157,6 @@ uncovered hs ps e = ap (λ (t : Bool). checkedAs t hs ps) (e ∙ covers-is hs ps
 pub all-covered-as : (hs : List Holding) (ps : List Pair) {free : List Holding} → (true ≡ covers hs (legsOf ps)) × (free ≡ full 128 emptyHolding (afterLegs hs (legsOf ps))) → record { sound = true; free = free } ≡ checkedAs (covered hs ps) hs ps
 unfolding checkedAs
 all-covered-as hs ps e = rw (e .1, after-is hs ps) (ap (λ (t : Bool). checkedAs t hs ps) (e .0 ∙ covers-is hs ps))
-
--- what a pair behind the end would be
-abbrev pub noPair : Pair
-noPair = record { kind = 0; first = noRow .series; second = noRow .series; r1 = 0; r2 = 0; units = 0 }
 
 -- Sound rows fill their array.
 pub rows-long : {A : Type 0} {empty : A} {good : A → Bool} {rank : A → List ℕ} {n : ℕ} {rows : List A} → SoundRows empty good rank n rows → length rows ≡ 128

@@ -50,7 +50,7 @@ fn keys_of(rows: [Holding; 128]) -> Keys
 }
 
 // The first of the `held` rows whose key is not before that of the series, by halving.
-fn place_of(highs: &[u64], lows: &[u64], held: usize, s: Series) -> usize
+fn place_of<'a>(highs: &'a [u64], lows: &'a [u64], held: usize, s: Series) -> usize
     requires { ⌜ Rising (now highs) (now lows) held ⌝ }
     ensures { λ r. ⌜ PlaceIs (now (highs .entry)) (now (lows .entry)) held (halves s) r ⌝ }
 {

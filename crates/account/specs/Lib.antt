@@ -1,0 +1,10 @@
+pub mod Needed
+pub mod Margin
+pub mod Walk
+pub mod SumLaws
+pub mod QuotedLaws
+pub mod RowLaws
+pub mod LegLaws
+pub mod AccountLaws
+pub mod CallLaws
+pub mod TextLaws

@@ -1,0 +1,27 @@
+use mathlib.Core.Path.{_∙_}
+use borrow.Author.Needs.{needs}
+use Rattle.statement.specs.StatementLaws.{book-refused, margin-refused, margin-stated}
+use Rattle.statement.proofs.state.Statement.{statement}
+use Rattle.statement.proofs.state.Tie as tie
+
+returns : tie.Need-returns
+returns c = c .refusal .ensures ∙ book-refused _ _ _ (c .before .before .before .read .ensures) (c .before .if1 .taken)
+
+returns-2 : tie.Need-returns-2
+returns-2 c = c .refusal2 .ensures ∙ margin-refused _ _ _ (c .before .before .before .before .before .before .before .read .ensures) _ (c .before .before .before .margin-of .ensures) (c .before .before .before .before .before .if1 .left) (c .before .if2 .taken)
+
+returns-3 : tie.Need-returns-3
+returns-3 c = c .result .ensures ∙ margin-stated _ _ _ (c .before .before .before .before .before .before .before .before .read .ensures) _ (c .before .before .before .before .margin-of .ensures) (c .before .before .before .before .before .before .if1 .left) (c .before .before .if2 .left)
+
+pub state-spec : {M : Type 1} → statement M
+state-spec =
+    tie.close
+    (tie.spec
+    (λ c κs. search needs)
+    (λ c κs. search needs)
+    returns
+    (λ c κs. search needs)
+    (λ c κs. search needs)
+    returns-2
+    (λ c κs. search needs)
+    returns-3)
