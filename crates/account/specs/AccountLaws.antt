@@ -1,10 +1,10 @@
 -- Laws of the account's margin: with every row quoted once, the sums over rows by their place are the sums of the paper.
-use mathlib.Core.Path.{_≡_, refl, sym, ap, _∙_, subst}
+use mathlib.Core.Path.{_≡_, refl, sym, ap, _∙_}
 use mathlib.Core.Bool.{Bool, true, false}
-use mathlib.Core.List.{List, [], _∷_, _++_, map}
-use Prim.Native.Nat.{ℕ, _-_, _<_, _≤_}
+use mathlib.Core.List.{List}
+use Prim.Native.Nat.{ℕ, _-_, _<_}
 use native.Mathlib.Omega.{arith}
-use lib.ListN.{getD, length, take, length-map, List·getD-append}
+use lib.ListN.{getD, length, length-map, List·getD-append}
 use lib.Seq.{getD-take}
 use Rattle.laws.specs.Truth.{both}
 use Rattle.laws.specs.TruthLaws.{by-test, clash}
@@ -34,10 +34,10 @@ use Rattle.quotes.specs.Quotes.{noQuote, onSheet, quoteOf}
 use Rattle.account.specs.declared.Part.{Part}
 use Rattle.account.specs.Needed.{neededByHolding, neededByPair, neededBy}
 use Rattle.account.specs.Margin.{plus, holdingMargin, pairMargin, sumLevels, paysC, accountMargin}
-use Rattle.account.specs.Walk.{Quoted, allBelow, sumBelow, partOf, rowLimit, holdingReady, holdingComes, pairReady, pairComes, readyAt, comesAt, pairReadyAt, pairComesAt, PairStands}
+use Rattle.account.specs.Walk.{Quoted, allBelow, sumBelow, partOf, rowLimit, pairReady, readyAt, comesAt, pairReadyAt, pairComesAt, PairStands}
 use Rattle.account.specs.SumLaws.{one-fails, all-same, sum-same, sum-most, every-below, sum-below}
 use Rattle.account.specs.RowLaws.{holding-ready, holding-most, holding-comes, pair-ready, pair-comes, pair-most}
-use Rattle.account.specs.LegLaws.{LegsFound, legs-found}
+use Rattle.account.specs.LegLaws.{legs-found}
 
 -- What the book's check says.
 pub checked-sound : (b : Book) {c : Checked} {t : Bool} → c ≡ checkedBook b → c .sound ≡ t → soundBook b ≡ t

@@ -2,18 +2,15 @@
 use mathlib.Core.Path.{_≡_, refl, sym, ap, _∙_, subst}
 use mathlib.Core.Bool.{Bool, true}
 use mathlib.Core.List.{List, [], _∷_}
-use Prim.Native.Nat.{ℕ, zero, suc, _<_, _≤_}
+use Prim.Native.Nat.{ℕ, _<_, _≤_}
 use native.Mathlib.Omega.{arith}
 use lib.ListN.{getD, length}
 use lib.Seq.{getD-take}
-use Rattle.laws.specs.Truth.{either}
-use Rattle.laws.specs.TruthLaws.{by-test, clash}
-use Rattle.laws.specs.Bytes.{sameBytes}
-use Rattle.laws.specs.ByteLaws.{are-same}
+use Rattle.laws.specs.TruthLaws.{by-test}
 use Rattle.laws.specs.SearchLaws.{every-at}
 use Rattle.laws.specs.OrderLaws.{is-same}
 use Rattle.lists.specs.Sorted.{sumOf, stands}
-use Rattle.lists.specs.SortedLaws.{look-none}
+use Rattle.lists.specs.SortedLaws.{look-none, one-of-all, stands-at}
 use Rattle.halving.specs.Halving.{Rising}
 use Rattle.halving.specs.HalvingLaws.{find-at}
 use Rattle.series.specs.declared.Series.{Series}
@@ -46,24 +43,6 @@ pub record LegsFound (v : View) (quotes : List Quote) (highs lows : List ℕ) (h
   pub second-stands : legPlace highs lows held (p .second) < held
   pub second-quote : legQuote quotes highs lows held (p .second) ≡ quoteOf v (p .second)
   pub good : goodPair p ≡ true
-
-module _ {A : Type 0} where
-  -- One of the rows is no more than their sum.
-  one-of-all : (f : A → ℕ) (l : List A) (j : ℕ) (d : A) → j < length l → f (getD l j d) ≤ sumOf f l
-  unfolding sumOf
-  one-of-all f [] j d lt = absurd (omega arith)
-  one-of-all f (x ∷ l) zero d lt = omega arith
-  one-of-all f (x ∷ l) (suc j) d lt = let h = one-of-all f l j d (omega arith) in omega arith
-
-  -- A rank that stands among rows stands at a place: what holds of each such place holds.
-  stands-at : (rank : A → List ℕ) (k : List ℕ) (d : A) (P : Type 0) (l : List A) → stands rank k l ≡ true → ((i : ℕ) → i < length l → rank (getD l i d) ≡ k → P) → P
-  unfolding stands
-  stands-at rank k d P [] s h = absurd (clash s refl)
-  stands-at rank k d P (x ∷ l) s h =
-      by-test (λ (b : Bool). either b (stands rank k l) ≡ true → P) (sameBytes (rank x) k)
-      (λ q s. h 0 (omega arith) (are-same (rank x) k q))
-      (λ q s. stands-at rank k d P l s (λ i lt. h (suc i) (omega arith)))
-      s
 
 -- A series of which there are lots stands among the holdings.
 held-stands : (hs : List Holding) (leg : Leg) → 1 ≤ total hs (leg .series) (leg .side) → stands holdingRank (seriesRank (leg .series)) hs ≡ true

@@ -1,19 +1,20 @@
 -- Laws of what a holding and a pair with their quotes need and come to: it is what the paper says, and no more than a row may.
 use mathlib.Core.Path.{_≡_, refl, sym, _∙_, subst}
-use mathlib.Core.Bool.{Bool, true, false}
+use mathlib.Core.Bool.{Bool, true}
 use mathlib.Core.List.{[]}
 use Prim.Native.Nat.{ℕ, _+_, _*_, _≤_}
 use native.Mathlib.Nat.{mul-le-mul}
 use native.Mathlib.Omega.{arith}
 use lib.Dec.{eqb, lit≤}
-use borrow.Author.Tests.{eqb-true, le-leb}
-use Rattle.laws.specs.Truth.{pick, both, within}
-use Rattle.laws.specs.TruthLaws.{both-true, both-hold, both-end, picked, by-test, clash}
+use borrow.Author.Tests.{eqb-true}
+use Rattle.laws.specs.Truth.{pick, both}
+use Rattle.laws.specs.TruthLaws.{both-true, both-hold, both-end, is-within, picked, by-test, clash}
 use Rattle.laws.specs.ByteLaws.{are-same}
 use Rattle.laws.specs.Search.{everyLine}
 use Rattle.laws.specs.SearchLaws.{every-append}
 use Rattle.laws.specs.Checks.{allPass}
 use Rattle.laws.specs.Kinds.{byKind}
+use Rattle.laws.specs.KindLaws.{of-kind}
 use Rattle.series.specs.declared.Series.{Series}
 use Rattle.series.specs.Natures.{isFuture}
 use Rattle.legs.specs.Legs.{sameCode}
@@ -62,16 +63,6 @@ pub holding-comes : (v : View) (h : Holding) → holdingComes h (quoteOf v (h .s
 unfolding holdingComes holdingMargin
 holding-comes v h = refl
 
--- What is made of what is said by kind is said by kind of what is made of each.
-module _ {A B : Type 0} (f : A → B) where
-  of-pick : (b : Bool) (x y : A) → f (pick b x y) ≡ pick b (f x) (f y)
-  of-pick true x y = refl
-  of-pick false x y = refl
-
-  of-kind : (k : ℕ) (one two three four five six seven eight other : A) → f (byKind k one two three four five six seven eight other) ≡ byKind k (f one) (f two) (f three) (f four) (f five) (f six) (f seven) (f eight) (f other)
-  unfolding byKind
-  of-kind k one two three four five six seven eight other = simp of-pick
-
 -- What a pair needs is on the sheet.
 pub pair-ready : (v : View) (p : Pair) → pairReady (p .kind) (quoteOf v (p .first)) (quoteOf v (p .second)) ≡ everyLine (onSheet v) (neededByPair p)
 unfolding pairReady neededByPair ownLineOf linesOf quoteOf quoteAs everyLine
@@ -105,9 +96,6 @@ both-lined v p g =
 
     two : both (quoteOf v (p .first) .ready) (quoteOf v (p .second) .ready) ≡ true → (quoteOf v (p .first) .lined ≡ true) × (quoteOf v (p .second) .lined ≡ true)
     two e = let r = both-true (quoteOf v (p .first) .ready) _ e in (ready-lined v (p .first) (r .0), ready-lined v (p .second) (r .1))
-
-is-within : {least greatest x : ℕ} → least ≤ x → x ≤ greatest → within least greatest x ≡ true
-is-within {least} {greatest} {x} h k = both-hold (le-leb least x h) (le-leb x greatest k)
 
 -- Then its unit is taken, and the pair comes to what its kind's formula says.
 unit-taken : (v : View) (p : Pair) → goodPair p ≡ true → pairReady (p .kind) (quoteOf v (p .first)) (quoteOf v (p .second)) ≡ true → allPass (unitChecks (p .kind) (quoteOf v (p .first) .lot) (quoteOf v (p .second) .lot) (quoteOf v (p .second) .terms) (p .r1) (p .r2)) ≡ true

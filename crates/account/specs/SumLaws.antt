@@ -2,19 +2,18 @@
 use mathlib.Core.Path.{_≡_, refl, sym, ap, _∙_}
 use mathlib.Core.Bool.{Bool, true, false}
 use mathlib.Core.List.{List, [], _∷_}
-use Prim.Native.Nat.{ℕ, zero, suc, _+_, _*_, _<_, _≤_}
+use Prim.Native.Nat.{ℕ, zero, suc, _+_, _*_, _<_}
 use native.Mathlib.Omega.{arith}
 use native.Mathlib.Decide.{decLt}
 use native.Mathlib.Numerals.{add-one}
 use lib.ListN.{getD, length}
 use Rattle.laws.specs.Truth.{both}
-use Rattle.laws.specs.TruthLaws.{both-hold}
+use Rattle.laws.specs.TruthLaws.{both-hold, both-end, both-first}
 use Rattle.laws.specs.Search.{everyLine}
 use Rattle.lists.specs.Sorted.{sumOf}
 use Rattle.levels.specs.declared.Levels.{Levels}
 use Rattle.levels.specs.Levels.{flat}
 use Rattle.levels.specs.Ranges.{AtMost}
-use Rattle.account.specs.declared.Part.{Part}
 use Rattle.account.specs.Margin.{plus, sumLevels}
 use Rattle.account.specs.Walk.{allBelow, sumBelow, partOf, rowLimit}
 
@@ -93,16 +92,8 @@ sum-most f (suc n) h =
 -- By place from the first row on, and so over a list.
 all-first : (f : ℕ → Bool) (n : ℕ) → allBelow f (suc n) ≡ both (f 0) (allBelow (λ (i : ℕ). f (suc i)) n)
 unfolding allBelow
-all-first f zero = go (f 0)
-  where
-    go : (b : Bool) → b ≡ both b true
-    go true = refl
-    go false = refl
-all-first f (suc n) = rw (all-first f n) (go (f 0) (allBelow (λ (i : ℕ). f (suc i)) n) (f (suc n)))
-  where
-    go : (a b c : Bool) → both (both a b) c ≡ both a (both b c)
-    go true b c = refl
-    go false b c = refl
+all-first f zero = sym (both-end (f 0))
+all-first f (suc n) = rw (all-first f n) (sym (both-first (f 0) (allBelow (λ (i : ℕ). f (suc i)) n) (f (suc n))))
 
 module _ {A : Type 0} (d : A) where
   pub every-below : (test : A → Bool) (l : List A) → allBelow (λ (i : ℕ). test (getD l i d)) (length l) ≡ everyLine test l

@@ -1,14 +1,12 @@
 // The account's margin: a book and a day's sheet, both handed in; three amounts, or the number and line of a refusal.
 ghost use mathlib.Core.Path.{_≡_};
 ghost use mathlib.Core.Bool.{true, false};
-ghost use mathlib.Core.List.{List};
 ghost use Prim.Native.Nat.{ℕ, _+_, _*_, _≤_, _<_, min};
 ghost use lib.Dec.{ltb};
 ghost use lib.ListN.{getD};
 ghost use Rattle.laws.specs.Truth.{pick};
-ghost use Rattle.levels.specs.Levels.{perLevel, flat};
+ghost use Rattle.levels.specs.Levels.{flat};
 ghost use Rattle.levels.specs.Ranges.{AtMost};
-ghost use Rattle.rules.specs.Facts.{Sound};
 ghost use Rattle.sheets.specs.Rows.{noStock};
 ghost use Rattle.sound.specs.Walk.{noPair};
 ghost use Rattle.quotes.specs.View.{sheetView};

@@ -140,64 +140,30 @@ fn say_sheet(sheet: Sheet, good: bool) {
 // What a sheet has for a code, or zeros.
 fn future_of(sheet: Sheet, code: [u8; 3]) -> Found {
     let rows = sheet.futures;
-    let place = sheets::future_place(code);
-    if place < 8 {
-        return rows[place];
-    }
-    Found {
-        there: false,
-        amount: 0,
-    }
+    sheets::clearing_of(rows, code)
 }
 
 fn option_of(sheet: Sheet, code: [u8; 3]) -> IndexLine {
     let rows = sheet.options;
-    let place = sheets::option_place(code);
-    if place < 4 {
-        return rows[place];
-    }
-    let zero = levels::same_at_all(0);
-    IndexLine {
-        multiplier: 0,
-        a: zero,
-        b: zero,
-        c: zero,
-        underlying: 0,
-    }
-}
-
-fn no_stock() -> StockLine {
-    StockLine {
-        shares: 0,
-        future: 0,
-        option: 0,
-        c: levels::same_at_all(0),
-        disposition: 0,
-        price: 0,
-    }
+    sheets::index_of(rows, code)
 }
 
 fn stock_of(sheet: Sheet, code: [u8; 3]) -> StockLine {
     let rows = sheet.stocks;
-    let firsts = sheet.firsts;
-    let seconds = sheet.seconds;
-    let place = sheets::stock_place(&firsts, &seconds, sheet.listed, code);
+    let place = sheets::stock_place(&sheet.firsts, &sheet.seconds, sheet.listed, code);
     if sheet.listed <= place {
-        return no_stock();
+        return sheets::no_stock();
     }
     if place < 1024 {
         rows[place]
     } else {
-        no_stock()
+        sheets::no_stock()
     }
 }
 
 fn price_of(sheet: Sheet, cells: [Cell; 4]) -> Found {
     let s = lines::series_of(cells[0], cells[1], cells[2], cells[3]);
-    let highs = sheet.highs;
-    let lows = sheet.lows;
-    let prices = sheet.prices;
-    sheets::price_of(&highs, &lows, &prices, sheet.quoted, s)
+    sheets::price_of(&sheet.highs, &sheet.lows, &sheet.prices, sheet.quoted, s)
 }
 
 // What a question's field k is read as.

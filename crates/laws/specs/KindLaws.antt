@@ -1,8 +1,10 @@
 -- Laws of what is said kind by kind.
-use mathlib.Core.Path.{_≡_}
+use mathlib.Core.Path.{_≡_, refl}
+use mathlib.Core.Bool.{Bool, true, false}
 use Prim.Native.Nat.{ℕ}
 use lib.Dec.{eqb}
 use borrow.Author.Tests.{ne-eqb, eqb-true}
+use Rattle.laws.specs.Truth.{pick}
 use Rattle.laws.specs.TruthLaws.{picked}
 use Rattle.laws.specs.Kinds.{byKind}
 
@@ -23,3 +25,13 @@ module _ {A : Type 0} (one two three four five six seven eight other : A) where
       picked P (eqb k 6) _ _ (λ q. f (eqb-true k 6 q)) (λ _.
       picked P (eqb k 7) _ _ (λ q. g (eqb-true k 7 q)) (λ _.
       picked P (eqb k 8) _ _ (λ q. h (eqb-true k 8 q)) (λ _. o))))))))
+
+-- What is made of what is said by kind is said by kind of what is made of each.
+module _ {A B : Type 0} (f : A → B) where
+  of-pick : (b : Bool) (x y : A) → f (pick b x y) ≡ pick b (f x) (f y)
+  of-pick true x y = refl
+  of-pick false x y = refl
+
+  pub of-kind : (k : ℕ) (one two three four five six seven eight other : A) → f (byKind k one two three four five six seven eight other) ≡ byKind k (f one) (f two) (f three) (f four) (f five) (f six) (f seven) (f eight) (f other)
+  unfolding byKind
+  of-kind k one two three four five six seven eight other = simp of-pick

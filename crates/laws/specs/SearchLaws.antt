@@ -1,5 +1,5 @@
 -- Laws of the search of a table: those by which a loop finds the line, and what is known of what is found.
-use mathlib.Core.Path.{_≡_, refl, sym, ap, _∙_}
+use mathlib.Core.Path.{_≡_, refl, ap, _∙_}
 use mathlib.Core.Bool.{Bool, true, false}
 use mathlib.Core.List.{List, [], _∷_, _++_}
 use Prim.Native.Nat.{ℕ, zero, suc, _+_, _≤_, _<_}
@@ -7,7 +7,7 @@ use native.Mathlib.Omega.{arith}
 use native.Mathlib.Numerals.{add-one}
 use lib.ListN.{getD, drop, length, drop-of-length-le}
 use lib.Seq.{drop-cons}
-use Rattle.laws.specs.TruthLaws.{both-true, both-hold, picked}
+use Rattle.laws.specs.TruthLaws.{both-true, both-hold, both-first, picked}
 use Rattle.laws.specs.Truth.{both}
 use Rattle.laws.specs.Search.{firstWhere, everyLine, gathered}
 
@@ -74,10 +74,6 @@ every-behind test [] ms e = e
 every-behind test (l ∷ ls) ms e = every-behind test ls ms (both-true (test l) (everyLine test (ls ++ ms)) e .1)
 
 -- A test of two tables as one is the test of both, and a test of all that lines give is that of what each gives.
-both-first : (a b c : Bool) → both a (both b c) ≡ both (both a b) c
-both-first true b c = refl
-both-first false b c = refl
-
 module _ {A : Type 0} (test : A → Bool) where
   pub every-append : (ls ms : List A) → everyLine test (ls ++ ms) ≡ both (everyLine test ls) (everyLine test ms)
   unfolding everyLine

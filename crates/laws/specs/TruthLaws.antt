@@ -5,7 +5,7 @@ use mathlib.Core.Bool.{Bool, true, false, not}
 use Prim.Native.Nat.{ℕ, _≤_}
 use native.Mathlib.Omega.{arith}
 use lib.Dec.{leb}
-use borrow.Author.Tests.{leb-true, not-true, not-false}
+use borrow.Author.Tests.{leb-true, le-leb, not-true, not-false}
 use Rattle.laws.specs.Truth.{pick, both, either, within}
 
 -- A test is not both true and false.
@@ -26,6 +26,14 @@ both-true false y e = absurd (clash e refl)
 
 pub both-hold : {x y : Bool} → x ≡ true → y ≡ true → both x y ≡ true
 both-hold e f = rw (e, f)
+
+pub is-within : {least greatest x : ℕ} → least ≤ x → x ≤ greatest → within least greatest x ≡ true
+is-within {least} {greatest} {x} h k = both-hold (le-leb least x h) (le-leb x greatest k)
+
+-- Three tests hold whichever two are taken first.
+pub both-first : (a b c : Bool) → both a (both b c) ≡ both (both a b) c
+both-first true b c = refl
+both-first false b c = refl
 
 pub either-true : (x y : Bool) → either x y ≡ true → (x ≡ true) ⊎ (y ≡ true)
 either-true true y e = inl refl

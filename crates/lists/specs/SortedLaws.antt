@@ -367,3 +367,21 @@ pub sum-joined : {A : Type 0} (f : A → ℕ) (l m : List A) → sumOf f (l ++ m
 unfolding sumOf
 sum-joined f [] m = omega arith
 sum-joined f (x ∷ l) m = let h = sum-joined f l m in omega arith
+
+module _ {A : Type 0} where
+  -- One of the rows is no more than their sum.
+  pub one-of-all : (f : A → ℕ) (l : List A) (j : ℕ) (d : A) → j < length l → f (getD l j d) ≤ sumOf f l
+  unfolding sumOf
+  one-of-all f [] j d lt = absurd (omega arith)
+  one-of-all f (x ∷ l) zero d lt = omega arith
+  one-of-all f (x ∷ l) (suc j) d lt = let h = one-of-all f l j d (omega arith) in omega arith
+
+  -- A rank that stands among rows stands at a place: what holds of each such place holds.
+  pub stands-at : (rank : A → List ℕ) (k : List ℕ) (d : A) (P : Type 0) (l : List A) → stands rank k l ≡ true → ((i : ℕ) → i < length l → rank (getD l i d) ≡ k → P) → P
+  unfolding stands
+  stands-at rank k d P [] s h = absurd (clash s refl)
+  stands-at rank k d P (x ∷ l) s h =
+      by-test (λ (b : Bool). either b (stands rank k l) ≡ true → P) (sameBytes (rank x) k)
+      (λ q s. h 0 (omega arith) (are-same (rank x) k q))
+      (λ q s. stands-at rank k d P l s (λ i lt. h (suc i) (omega arith)))
+      s

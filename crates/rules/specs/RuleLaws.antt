@@ -9,7 +9,7 @@ use lib.Dec.{eqb, leb}
 use lib.ListN.{length, take, drop, replicate, length-take, length-drop, take-append-drop}
 use borrow.Author.Tests.{eq-eqb, eqb-true, le-leb, leb-true, not-true}
 use Rattle.laws.specs.Truth.{within}
-use Rattle.laws.specs.TruthLaws.{both-true, both-hold, either-true, within-true}
+use Rattle.laws.specs.TruthLaws.{both-true, both-hold, either-true, within-true, is-within}
 use Rattle.laws.specs.Text.{byte}
 use Rattle.laws.specs.Search.{everyLine}
 use Rattle.laws.specs.Checks.{allPass}
@@ -102,9 +102,6 @@ counts-are r1 r2 units e =
     let x = within-true 1 100000 (r1 * units) (d .0) in
     let y = within-true 1 100000 (r2 * units) (d .1) in
     record { some1 = p .0; few1 = p .1; some2 = q .0; few2 = q .1; some-units = u .0; few-units = u .1; some-lots1 = x .0; few-lots1 = x .1; some-lots2 = y .0; few-lots2 = y .1 }
-
-is-within : {least greatest x : ℕ} → least ≤ x → x ≤ greatest → within least greatest x ≡ true
-is-within {least} {greatest} {x} h k = both-hold (le-leb least x h) (le-leb x greatest k)
 
 pub counts-back : (r1 r2 units : ℕ) → Counts r1 r2 units → countsFit r1 r2 units ≡ true
 unfolding countsFit

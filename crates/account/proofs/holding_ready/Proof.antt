@@ -1,5 +1,5 @@
 use Rattle.account.specs.Walk.{holdingReady}
-use mathlib.Core.Path.{sym, _∙_, refl}
+use mathlib.Core.Path.{refl}
 use borrow.Author.Tests.{eq-eqb, ne-eqb}
 use borrow.Author.Needs.{needs}
 use Rattle.account.proofs.holding_ready.Statement.{statement}

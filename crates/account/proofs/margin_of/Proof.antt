@@ -1,4 +1,3 @@
-use mathlib.Core.Path.{ap, _∙_}
 use Rattle.account.specs.Margin.{marginText}
 use borrow.Author.Needs.{needs}
 use Rattle.account.proofs.margin_of.Statement.{statement}
