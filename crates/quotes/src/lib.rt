@@ -1,12 +1,12 @@
 // What a sheet says of one series, worked out once: whether the lines that it needs are there, one lot, and what its pairs use.
 ghost use mathlib.Core.Path.{_≡_};
-ghost use Rattle.laws.specs.Truth.{pick};
-ghost use Rattle.quotes.specs.View.{saying};
 ghost use mathlib.Core.Bool.{true, false};
-ghost use Rattle.levels.specs.Levels.{flat};
+ghost use Rattle.laws.specs.Truth.{pick};
 ghost use Rattle.series.specs.Natures.{isCall, strikeOf};
+ghost use Rattle.levels.specs.Levels.{flat};
 ghost use Rattle.amounts.specs.Lines.{indexFits, stockFits};
 ghost use Rattle.amounts.specs.Lots.{futureLot, refusedLot, fixedFuture, stockFuture, indexOption, stockOption, indexTerms, stockTerms};
+ghost use Rattle.quotes.specs.View.{saying};
 ghost use Rattle.quotes.specs.Quotes.{byClass, clearingStands, priceStands, noTerms, noQuote, quoteAs};
 use amounts::IndexLine;
 use amounts::Lot;
