@@ -1,33 +1,33 @@
 -- Laws of the rows of a book, each quoted once: what the sheet's fields say of a row's series is its quote.
 use mathlib.Core.Path.{_≡_, refl, sym, ap, _∙_}
-use mathlib.Core.List.{List}
-use Prim.Native.Nat.{ℕ, _+_, _<_, min}
+use mathlib.Core.List.{List, [], _∷_}
+use Prim.Native.Nat.{ℕ, _+_, _<_, _≤_, min}
 use native.Mathlib.Omega.{arith}
 use native.Mathlib.Decide.{decLt}
 use borrow.Author.Tests.{lt-ltb, le-ltb}
 use lib.Dec.{ltb}
-use lib.ListN.{getD, length, set, length-set, List·getD-eq-default}
+use lib.ListN.{getD, length, take, set, length-set, replicate, length-replicate, List·getD-eq-default}
 use lib.Seq.{getD-set-same, getD-set-other}
 use Rattle.laws.specs.Truth.{pick}
+use Rattle.halving.specs.Halving.{keyAt}
 use Rattle.codes.specs.declared.Product.{Product}
 use Rattle.codes.specs.Codes.{productOf}
 use Rattle.series.specs.declared.Series.{Series}
-use Rattle.series.specs.declared.Halves.{Halves}
-use Rattle.series.specs.Key.{halvesOf}
 use Rattle.amounts.specs.declared.IndexLine.{IndexLine}
 use Rattle.amounts.specs.declared.StockLine.{StockLine}
 use Rattle.rows.specs.declared.Holding.{Holding}
 use Rattle.sheets.specs.declared.Found.{Found}
 use Rattle.sheets.specs.declared.Sheet.{Sheet}
 use Rattle.sheets.specs.Rows.{nothing, noIndex, noStock}
-use Rattle.sheets.specs.Sheet.{futurePlace, optionPlace, stockAt, priceAt, clearingOn, indexOn, stockOn, priceOn}
-use Rattle.sound.specs.Walk.{noRow}
-use Rattle.sound.specs.KeyedLaws.{keyed-starts, keyed-next}
+use Rattle.sheets.specs.Sheet.{futurePlace, optionPlace, stockAt, priceAmong, pricesAt, clearingOn, indexOn, stockOn, priceOn}
+use Rattle.sheets.specs.SeekLaws.{filled-says}
+use Rattle.sound.specs.Walk.{noRow, Keyed}
+use Rattle.sound.specs.KeyedLaws.{keyed-fewer}
 use Rattle.quotes.specs.declared.Quote.{Quote}
 use Rattle.quotes.specs.View.{View, saying, sheetView}
 use Rattle.quotes.specs.Quotes.{noQuote, quoteAs, quoteOf}
 use Rattle.quotes.specs.QuoteLaws.{quote-said}
-use Rattle.account.specs.Walk.{Quoted}
+use Rattle.account.specs.Walk.{Priced, QuotesAre, Quoted}
 
 -- The row at a place of 1,024, read at the nearest place that there is.
 row-inside : (rows : List StockLine) (at : ℕ) → length rows ≡ 1024 → pick (ltb at 1024) (getD rows (min at 1023) noStock) noStock ≡ getD rows at noStock
@@ -39,29 +39,38 @@ row-inside rows at long = go (decLt at 1024)
 
 -- What the lookups of a series find, put together, is its quote.
 module _ (sheet : Sheet) (s : Series) {p : Product} {clearing price : Found} {index : IndexLine} {stock : StockLine} {at k : ℕ} {q : Quote} where
-  pub row-quoted : length (sheet .stocks) ≡ 1024 → p ≡ productOf (s .code) → clearing ≡ getD (sheet .futures) (futurePlace (p .parent)) nothing → index ≡ getD (sheet .options) (optionPlace (s .code)) noIndex → at ≡ stockAt (sheet .firsts) (sheet .seconds) (sheet .listed) (p .parent) → k ≡ min at 1023 → stock ≡ pick (ltb at 1024) (getD (sheet .stocks) k noStock) noStock → price ≡ priceAt (sheet .highs) (sheet .lows) (sheet .prices) (sheet .quoted) s → q ≡ quoteAs (saying clearing index stock price) p s → q ≡ quoteOf (sheetView sheet) s
-  unfolding sheetView quoteOf clearingOn indexOn stockOn priceOn
+  pub row-quoted : length (sheet .stocks) ≡ 1024 → p ≡ productOf (s .code) → clearing ≡ getD (sheet .futures) (futurePlace (p .parent)) nothing → index ≡ getD (sheet .options) (optionPlace (s .code)) noIndex → at ≡ stockAt (sheet .firsts) (sheet .seconds) (sheet .listed) (p .parent) → k ≡ min at 1023 → stock ≡ pick (ltb at 1024) (getD (sheet .stocks) k noStock) noStock → price ≡ sheetView sheet .price s → q ≡ quoteAs (saying clearing index stock price) p s → q ≡ quoteOf (sheetView sheet) s
+  unfolding sheetView quoteOf clearingOn indexOn stockOn
   row-quoted long hp hc hi ha hk hs hv hq =
       let st : stock ≡ stockOn sheet (p .parent) = rw (hs, hk, row-inside (sheet .stocks) at long, ha) refl in
       let said : quoteAs (saying clearing index stock price) p s ≡ quoteAs (sheetView sheet) p s = rw (hc, hi, st, hv) (quote-said (sheetView sheet) p s) in
       hq ∙ said ∙ ap (λ (o : Product). quoteAs (sheetView sheet) o s) hp
 
--- The loop over rows: it has quoted the first i.
-pub quoted-starts : (v : View) (rows : List Holding) (quotes : List Quote) (highs lows : List ℕ) → length quotes ≡ 128 → Quoted v rows 0 quotes highs lows
-quoted-starts v rows quotes highs lows long =
-    record { keyed = keyed-starts noRow rows highs lows; quotes-long = long; quotes-are = λ i lt. absurd (omega arith) }
-
-pub quoted-next : {v : View} {rows : List Holding} {i : ℕ} {quotes : List Quote} {highs lows : List ℕ} {q : Quote} {k : Halves} → Quoted v rows i quotes highs lows → i < 128 → length highs ≡ 128 → length lows ≡ 128 → q ≡ quoteOf v (getD rows i noRow .series) → k ≡ halvesOf (getD rows i noRow .series) → Quoted v rows (i + 1) (set quotes i q) (set highs i (k .high)) (set lows i (k .low))
-quoted-next {v} {rows} {i} {quotes} {highs} {lows} {q} {k} z lt hl ll hq hk =
+-- What was found for the keys of the rows are their prices.
+pub rows-priced : (sheet : Sheet) (rows : List Holding) (held : ℕ) {highs lows : List ℕ} {prices : List Found} → Keyed noRow rows 128 highs lows → held ≤ 128 → prices ≡ pricesAt (sheet .prices) (sheet .quoted) highs lows held → Priced (sheetView sheet) rows held prices
+unfolding sheetView priceOn pricesAt
+rows-priced sheet rows held {highs} {lows} keyed few is =
+    let all : min held 128 ≡ held = omega arith in
     record {
-      keyed = keyed-next (z .keyed) (omega arith) (omega arith) hk;
-      quotes-long = length-set quotes i q ∙ z .quotes-long;
-      quotes-are = λ j less. go j less (decLt j i);
+      prices-are = λ i lt.
+          rw (is, all)
+          (filled-says (λ (j : ℕ). priceAmong (take (sheet .quoted) (sheet .prices)) (keyAt highs lows j)) nothing held (replicate 128 nothing) i (simp length-replicate few) lt
+          ∙ ap (priceAmong (take (sheet .quoted) (sheet .prices))) (λ j. keyed .highs-are i (omega arith) j ∷ keyed .lows-are i (omega arith) j ∷ []));
     }
+
+-- The loop over rows: it has quoted the first i.
+pub quotes-start : (v : View) (rows : List Holding) (quotes : List Quote) → length quotes ≡ 128 → QuotesAre v rows 0 quotes
+quotes-start v rows quotes long = record { long = long; are = λ i lt. absurd (omega arith) }
+
+pub quotes-on : {v : View} {rows : List Holding} {i : ℕ} {quotes : List Quote} {q : Quote} → QuotesAre v rows i quotes → i < 128 → q ≡ quoteOf v (getD rows i noRow .series) → QuotesAre v rows (i + 1) (set quotes i q)
+quotes-on {v} {rows} {i} {quotes} {q} z lt hq = record { long = length-set quotes i q ∙ z .long; are = λ j less. go j less (decLt j i) }
   where
     go : (j : ℕ) → j < i + 1 → Dec (j < i) → getD (set quotes i q) j noQuote ≡ quoteOf v (getD rows j noRow .series)
-    go j less (yes h) = getD-set-other quotes i j q noQuote (λ e. omega arith) ∙ z .quotes-are j h
+    go j less (yes h) = getD-set-other quotes i j q noQuote (λ e. omega arith) ∙ z .are j h
     go j less (no h) =
         let same : j ≡ i = omega arith in
-        let long = z .quotes-long in
+        let long = z .long in
         rw (same, getD-set-same quotes i q noQuote (omega arith)) hq
+
+pub rows-quoted : {v : View} {rows : List Holding} {held : ℕ} {quotes : List Quote} {highs lows : List ℕ} → held ≤ 128 → Keyed noRow rows 128 highs lows → QuotesAre v rows held quotes → Quoted v rows held quotes highs lows
+rows-quoted few keyed z = record { keyed = keyed-fewer few keyed; quotes-long = z .long; quotes-are = z .are }

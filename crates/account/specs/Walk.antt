@@ -16,6 +16,8 @@ use Rattle.levels.specs.Ranges.{AtMost}
 use Rattle.units.specs.Units.{unitMargin}
 use Rattle.rows.specs.declared.Holding.{Holding}
 use Rattle.rows.specs.declared.Pair.{Pair}
+use Rattle.sheets.specs.declared.Found.{Found}
+use Rattle.sheets.specs.Rows.{nothing}
 use Rattle.sound.specs.Walk.{noRow, noPair, Keyed}
 use Rattle.quotes.specs.declared.Quote.{Quote}
 use Rattle.quotes.specs.View.{View}
@@ -23,6 +25,14 @@ use Rattle.quotes.specs.Quotes.{noQuote, quoteOf}
 use Rattle.account.specs.declared.Part.{Part}
 use Rattle.account.specs.Needed.{chargedLots}
 use Rattle.account.specs.Margin.{times, plus}
+
+-- The prices of the rows' series, each found once; and their quotes.
+pub record Priced (v : View) (rows : List Holding) (n : ℕ) (prices : List Found) : Type 0 where
+  pub prices-are : (i : ℕ) → i < n → getD prices i nothing ≡ v .price (getD rows i noRow .series)
+
+pub record QuotesAre (v : View) (rows : List Holding) (n : ℕ) (quotes : List Quote) : Type 0 where
+  pub long : length quotes ≡ 128
+  pub are : (i : ℕ) → i < n → getD quotes i noQuote ≡ quoteOf v (getD rows i noRow .series)
 
 -- The rows of a book, each quoted once, with its key in two halves.
 pub record Quoted (v : View) (rows : List Holding) (n : ℕ) (quotes : List Quote) (highs lows : List ℕ) : Type 0 where

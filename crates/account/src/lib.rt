@@ -8,11 +8,11 @@ ghost use Rattle.laws.specs.Truth.{pick};
 ghost use Rattle.levels.specs.Levels.{flat};
 ghost use Rattle.levels.specs.Ranges.{AtMost};
 ghost use Rattle.sheets.specs.Rows.{noStock};
-ghost use Rattle.sound.specs.Walk.{noPair};
+ghost use Rattle.sound.specs.Walk.{noRow, noPair, Keyed};
 ghost use Rattle.quotes.specs.View.{sheetView};
 ghost use Rattle.account.specs.Needed.{chargedLots};
 ghost use Rattle.account.specs.Margin.{times, plus, marginOn, marginText};
-ghost use Rattle.account.specs.Walk.{Quoted, allBelow, sumBelow, partOf, rowLimit, holdingReady, holdingComes, pairReady, pairComes, legPlace, readyAt, comesAt, pairReadyAt, pairComesAt, PairStands};
+ghost use Rattle.account.specs.Walk.{Priced, QuotesAre, Quoted, allBelow, sumBelow, partOf, rowLimit, holdingReady, holdingComes, pairReady, pairComes, legPlace, readyAt, comesAt, pairReadyAt, pairComesAt, PairStands};
 use amounts::StockLine;
 use levels::Levels;
 use quotes::Quote;
@@ -20,6 +20,7 @@ use rows::Book;
 use rows::Holding;
 use rows::Pair;
 use series::Series;
+use sheets::Found;
 use sheets::Sheet;
 
 // The three amounts, or the number and line of a refusal and zeros.
@@ -33,6 +34,12 @@ pub struct Margin {
 struct Part {
     ready: bool,
     levels: Levels,
+}
+
+// The keys of rows, half by half.
+struct Keys {
+    highs: [u64; 128],
+    lows: [u64; 128],
 }
 
 // The rows of a book, each quoted once, with its key in two halves.
@@ -98,17 +105,33 @@ fn stock_at(at: usize, row: StockLine) -> StockLine
     if at < 1024 { row } else { sheets::no_stock() }
 }
 
-// What the sheet says of the series of each of the first `held` rows.
-fn quote_rows(rows: [Holding; 128], held: usize, sheet: Sheet) -> Quotes
-    requires { ⌜ held ≤ 128 ⌝ }
-    ensures { λ r. ⌜ Quoted (sheetView sheet) rows held (r .quotes) (r .highs) (r .lows) ⌝ }
+// The keys of the rows, half by half.
+fn keys_of(rows: [Holding; 128]) -> Keys
+    ensures { λ r. ⌜ Keyed noRow rows 128 (r .highs) (r .lows) ⌝ }
+{
+    let mut highs = [0u64; 128];
+    let mut lows = [0u64; 128];
+    let mut i: usize = 0;
+    while i < 128 {
+        let h = rows[i];
+        let s = h.series;
+        let k = series::halves_of(s);
+        highs[i] = k.high;
+        lows[i] = k.low;
+        i += 1;
+    }
+    Keys { highs, lows }
+}
+
+// What the sheet, and the price that was found for it, say of the series of each of the first `held` rows.
+fn quotes_of(rows: [Holding; 128], held: usize, sheet: Sheet, prices: [Found; 128]) -> [Quote; 128]
+    requires { ⌜ (held ≤ 128) × Priced (sheetView sheet) rows held prices ⌝ }
+    ensures { λ r. ⌜ QuotesAre (sheetView sheet) rows held r ⌝ }
 {
     let futures = sheet.futures;
     let options = sheet.options;
     let none = quotes::no_quote();
     let mut quotes = [none; 128];
-    let mut highs = [0u64; 128];
-    let mut lows = [0u64; 128];
     let mut i: usize = 0;
     while i < held {
         let h = rows[i];
@@ -121,14 +144,25 @@ fn quote_rows(rows: [Holding; 128], held: usize, sheet: Sheet) -> Quotes
         let at = sheets::stock_place(&sheet.firsts, &sheet.seconds, sheet.listed, parent);
         let row = sheet.stocks[inside(at)];
         let stock = stock_at(at, row);
-        let price = sheets::price_of(&sheet.highs, &sheet.lows, &sheet.prices, sheet.quoted, s);
-        let k = series::halves_of(s);
+        let price = prices[i];
         let q = quotes::quote_for(product, s, clearing, index, stock, price);
         quotes[i] = q;
-        highs[i] = k.high;
-        lows[i] = k.low;
         i += 1;
     }
+    quotes
+}
+
+// What the sheet says of the series of each of the first `held` rows.
+fn quote_rows(rows: [Holding; 128], held: usize, sheet: Sheet) -> Quotes
+    requires { ⌜ held ≤ 128 ⌝ }
+    ensures { λ r. ⌜ Quoted (sheetView sheet) rows held (r .quotes) (r .highs) (r .lows) ⌝ }
+{
+    let keys = keys_of(rows);
+    let highs = keys.highs;
+    let lows = keys.lows;
+    let lent = sheet.prices;
+    let prices = sheets::prices_of(lent, sheet.quoted, &highs, &lows, held);
+    let quotes = quotes_of(rows, held, sheet, prices);
     Quotes {
         quotes,
         highs,

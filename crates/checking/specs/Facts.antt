@@ -1,14 +1,28 @@
--- What the parts of the reader ask and answer: how many fields a letter has, its group, and a line's number behind the line before it
+-- What the parts of the reader ask and answer: the kinds and the number of a letter's fields, its group, and a line's number behind the line before it
 -- (document 01, "Text").
-use mathlib.Core.List.{List}
+use mathlib.Core.List.{List, [], _∷_, _++_}
 use Prim.Native.Nat.{ℕ}
 use lib.Dec.{eqb}
 use Rattle.laws.specs.Truth.{pick}
 use Rattle.laws.specs.Text.{byte}
 use Rattle.laws.specs.Checks.{firstFailing}
 use Rattle.laws.specs.Order.{isLess, bytesOrder}
+use Rattle.lines.specs.declared.Kind.{Kind}
+use Rattle.lines.specs.declared.Kind.the-variants.{Nothing}
 use Rattle.lines.specs.declared.Cell.{Cell}
-use Rattle.checking.specs.Lines.{said, rank, checksBy}
+use Rattle.checking.specs.Lines.{headForm, futureForm, optionForm, stockForm, priceForm, said, rank, checksBy}
+
+-- the kinds of all forms, one form behind the other, with Nothing between and behind them; and where those of a letter begin
+unfoldable pub kindTable : List Kind
+kindTable = headForm ++ (Nothing ∷ (futureForm ++ (Nothing ∷ (optionForm ++ (Nothing ∷ (stockForm ++ (Nothing ∷ (priceForm ++ (Nothing ∷ [])))))))))
+
+unfoldable pub placeFor : ℕ → ℕ
+placeFor letter =
+    pick (eqb letter (byte "D")) 0
+    (pick (eqb letter (byte "F")) 2
+    (pick (eqb letter (byte "O")) 5
+    (pick (eqb letter (byte "S")) 18
+    (pick (eqb letter (byte "Q")) 28 33))))
 
 unfoldable pub fieldsFor : ℕ → ℕ
 fieldsFor letter =

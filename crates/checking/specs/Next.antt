@@ -57,8 +57,6 @@ withDay sheet day =
       firsts = sheet .firsts;
       seconds = sheet .seconds;
       listed = sheet .listed;
-      highs = sheet .highs;
-      lows = sheet .lows;
       prices = sheet .prices;
       quoted = sheet .quoted;
     }
@@ -75,8 +73,6 @@ withFutures sheet futures =
       firsts = sheet .firsts;
       seconds = sheet .seconds;
       listed = sheet .listed;
-      highs = sheet .highs;
-      lows = sheet .lows;
       prices = sheet .prices;
       quoted = sheet .quoted;
     }
@@ -93,8 +89,6 @@ withOptions sheet options =
       firsts = sheet .firsts;
       seconds = sheet .seconds;
       listed = sheet .listed;
-      highs = sheet .highs;
-      lows = sheet .lows;
       prices = sheet .prices;
       quoted = sheet .quoted;
     }
@@ -111,14 +105,12 @@ withStocks sheet stocks firsts seconds listed =
       firsts = firsts;
       seconds = seconds;
       listed = listed;
-      highs = sheet .highs;
-      lows = sheet .lows;
       prices = sheet .prices;
       quoted = sheet .quoted;
     }
 
-abbrev pub withPrices : Sheet → List ℕ → List ℕ → List ℕ → ℕ → Sheet
-withPrices sheet highs lows prices quoted =
+abbrev pub withPrices : Sheet → List PriceRow → ℕ → Sheet
+withPrices sheet prices quoted =
     record {
       number = sheet .number;
       line = sheet .line;
@@ -129,8 +121,6 @@ withPrices sheet highs lows prices quoted =
       firsts = sheet .firsts;
       seconds = sheet .seconds;
       listed = sheet .listed;
-      highs = highs;
-      lows = lows;
       prices = prices;
       quoted = quoted;
     }

@@ -27,7 +27,7 @@ use Rattle.codes.specs.declared.Class.the-variants.{Unknown, ListedFuture, List
 use Rattle.codes.specs.Codes.{known}
 use Rattle.series.specs.Checks.{suits, classOf}
 use Rattle.series.specs.CheckLaws.{series-whole}
-use Rattle.series.specs.Key.{key, highKey, natureKey}
+use Rattle.series.specs.Key.{key}
 use Rattle.levels.specs.Ranges.{clearingFits}
 use Rattle.amounts.specs.Lines.{indexFits, stockFits}
 use Rattle.sheets.specs.declared.FutureRow.{FutureRow}
@@ -35,7 +35,7 @@ use Rattle.sheets.specs.declared.OptionRow.{OptionRow}
 use Rattle.sheets.specs.declared.StockRow.{StockRow}
 use Rattle.sheets.specs.declared.PriceRow.{PriceRow}
 use Rattle.sheets.specs.declared.Sheet.{Sheet}
-use Rattle.sheets.specs.Rows.{noRows, futureCodes, optionCodes, found, nothing, noIndex, noStock, clearingIn, indexIn}
+use Rattle.sheets.specs.Rows.{noRows, futureCodes, optionCodes, found, nothing, noIndex, noStock, noPrice, clearingIn, indexIn}
 use Rattle.sheets.specs.Sheet.{futurePlace, optionPlace, laidOut}
 use Rattle.sheets.specs.TableLaws.{futures-differ, options-differ, table-set, found-last, found-others}
 use Rattle.checking.specs.Lines.{Line, head, future, option, stock, price, formless, rank, among, twoCapitals, isQuoted, ownChecks, isHead, checksBy, lineChecks}
@@ -232,14 +232,14 @@ module _ {ls : List Line} (g : Good ls) (room : length ls < 1024) {sheet : Sheet
       (rw (full-more (λ (q : StockRow). q .line) noStock rows r lt, full-more (λ (q : StockRow). getD (q .code) 0 0) 0 rows r lt, full-more (λ (q : StockRow). getD (q .code) 1 0) 0 rows r lt, sym (length-append rows (r ∷ [])))
       (ap (laidOut 0 0) (sym (rows-stock ls r))))
 
-  pub price-laid : (r : PriceRow) → withPrices sheet (set (sheet .highs) (sheet .quoted) (highKey (r .series))) (set (sheet .lows) (sheet .quoted) (natureKey (r .series .nature))) (set (sheet .prices) (sheet .quoted) (r .price)) (sheet .quoted + 1) ≡ laidOut 0 0 (rowsOf (ls ++ (price r ∷ [])))
+  pub price-laid : (r : PriceRow) → withPrices sheet (set (sheet .prices) (sheet .quoted) r) (sheet .quoted + 1) ≡ laidOut 0 0 (rowsOf (ls ++ (price r ∷ [])))
   unfolding laidOut rowsOf
   price-laid r =
       let rows = gathered priceRow ls in
       let fewer = prices-fewer ls in
       let lt : length rows < 1024 = omega arith in
       rw is
-      (rw (full-more (λ (q : PriceRow). highKey (q .series)) 0 rows r lt, full-more (λ (q : PriceRow). natureKey (q .series .nature)) 0 rows r lt, full-more (λ (q : PriceRow). q .price) 0 rows r lt, sym (length-append rows (r ∷ [])))
+      (rw (set-end 1024 noPrice r rows lt, sym (length-append rows (r ∷ [])))
       (ap (laidOut 0 0) (sym (rows-price ls r))))
 
 -- What the checks of a line say of the row that it gives.

@@ -1,5 +1,6 @@
 -- Laws of the loop over lines: where a line begins, how it is refused, and what the next one finds.
 use mathlib.Core.Path.{_≡_, refl, ap, sym, _∙_}
+use mathlib.Core.Logic.{⊎-elim}
 use mathlib.Core.Bool.{Bool, true, false, not}
 use mathlib.Core.List.{List, [], _∷_, _++_}
 use Prim.Native.Nat.{ℕ, suc, _+_, _-_, _<_, _≤_}
@@ -16,15 +17,14 @@ use Rattle.laws.specs.CheckLaws.{none-fails, accepted as no-failure}
 use Rattle.laws.specs.Order.{isLess, bytesOrder}
 use Rattle.lists.specs.Sorted.{ascending, ascendingFrom}
 use Rattle.lists.specs.LastLaws.{after-last}
-use Rattle.series.specs.declared.Halves.{Halves}
-use Rattle.series.specs.Key.{halvesOf}
-use Rattle.lines.specs.declared.Kind.{Kind}
 use Rattle.lines.specs.declared.Kind.the-variants.{Nothing}
 use Rattle.lines.specs.declared.Cell.{Cell}
-use Rattle.lines.specs.Parts.{tab, lf, more, splitOn, nextOf}
-use Rattle.lines.specs.Fields.{cellOf}
-use Rattle.lines.specs.CutLaws.{next-low, next-high, part-more, part-last}
-use Rattle.lines.specs.LoopLaws.{InFields, row-bad, cell-room, fields-on}
+use Rattle.lines.specs.declared.Field.{Field}
+use Rattle.lines.specs.Parts.{tab, lf, more, splitOn, nextOf, stopOf}
+use Rattle.lines.specs.Fields.{fieldAt}
+use Rattle.lines.specs.CutLaws.{next-low, part-more, part-last}
+use Rattle.lines.specs.StopLaws.{stop-high, stop-within, lineAt}
+use Rattle.lines.specs.LoopLaws.{InLine, line-begins, stop-less, line-bad, line-room, line-on, line-end, line-done}
 use Rattle.sheets.specs.declared.Found.{Found}
 use Rattle.sheets.specs.declared.FutureRow.{FutureRow}
 use Rattle.sheets.specs.declared.OptionRow.{OptionRow}
@@ -36,9 +36,9 @@ use Rattle.sheets.specs.Sheet.{futurePlace, optionPlace, laidOut}
 use Rattle.amounts.specs.declared.IndexLine.{IndexLine}
 use Rattle.checking.specs.Lines.{Line, head, future, option, stock, price, formless, figure, futureFrom, optionFrom, stockFrom, priceFrom, letterIn, formOf, said, lineOf, rank, ownChecks, checksBy, lineChecks}
 use Rattle.checking.specs.Reading.{rowsOf, refusedAt, accepted, judgeLines, judged, sheetOf, readText}
-use Rattle.checking.specs.Facts.{fieldsFor, numberFor}
+use Rattle.checking.specs.Facts.{kindTable, placeFor, fieldsFor, numberFor}
 use Rattle.checking.specs.Next.{Good, withDay, withFutures, withOptions, withStocks, withPrices}
-use Rattle.checking.specs.TurnLaws.{Letter, is-D, is-F, is-O, is-S, is-Q, form-few, line-formless, line-wrong, line-right, letter-known}
+use Rattle.checking.specs.TurnLaws.{Letter, is-D, is-F, is-O, is-S, is-Q, form-few, form-at, line-formless, line-wrong, line-right, letter-known}
 use Rattle.checking.specs.NumberLaws.{line-numbered}
 use Rattle.checking.specs.RowLaws.{no-lines, none-good, more-good, head-laid, future-laid, option-laid, stock-laid, price-laid, listed-room, quoted-room}
 
@@ -73,7 +73,16 @@ pub record AtLine (t : List ℕ) (sheet : Sheet) (last : ℕ) (before : List Cel
 pub lines-start : (t : List ℕ) (before : List Cell) {sheet : Sheet} → sheet ≡ laidOut 0 0 noRows → AtLine t sheet 0 before 0 0
 lines-start t before e = rw e (record { lines = []; along = along-none before; count = refl; low = omega arith; goes = refl })
 
--- The loop is in a line, of which the row is all but its LF.
+-- The loop is in a line, which begins at `at`.
+pub record InText (t : List ℕ) (sheet : Sheet) (last : ℕ) (before : List Cell) (line at : ℕ) : Type 0 where
+  pub lines : List Line
+  pub along : Along lines sheet last before
+  pub count : line ≡ suc (length lines)
+  pub room : length lines < 1024
+  pub low : at < length t
+  pub goes : sheetOf (judgeLines lines (splitOn lf (drop at t))) ≡ answerOf t
+
+-- It is at the end of a line, of which the row is all but its LF.
 pub record AtRow (t : List ℕ) (sheet : Sheet) (last : ℕ) (before : List Cell) (line at end : ℕ) (row : List ℕ) : Type 0 where
   pub lines : List Line
   pub along : Along lines sheet last before
@@ -113,36 +122,36 @@ module _ {t : List ℕ} {sheet : Sheet} {last : ℕ} {before : List Cell} {line 
             let rest = ne-eqb (length (drop at t)) 0 (λ z. omega arith) in
             refusal 2 (line + 1) ∙ rw (part-last t at lf refl low (omega arith), rest, full, place) at (a .goes)
 
-    module _ (within : line + 1 ≤ 1024) {end : ℕ} (is : end ≡ nextOf t at lf) where
-      fits : length (a .lines) < 1024
-      fits = let c = a .count in omega arith
+    -- Another line begins.
+    line-opens : line + 1 ≤ 1024 → InText t sheet last before (line + 1) at
+    line-opens within =
+        let low = a .low in
+        let c = a .count in
+        record { lines = a .lines; along = a .along; count = omega arith; room = omega arith; low = omega arith; goes = a .goes }
 
-      -- The last line has no LF.
-      pub line-unended : end ≡ length t → laidOut 1 (line + 1) noRows ≡ answerOf t
-      unfolding judgeLines
-      line-unended e =
-          let low = a .low in
-          let c = a .count in
-          let l = length-drop at t in
-          let rest = ne-eqb (length (drop at t)) 0 (λ z. omega arith) in
-          let place : suc (length (a .lines)) ≡ line + 1 = omega arith in
-          refusal 1 (line + 1) ∙ rw (part-last t at lf is low (omega arith), rest, lt-ltb (length (a .lines)) 1024 fits, place) at (a .goes)
+module _ {t : List ℕ} {sheet : Sheet} {last : ℕ} {before : List Cell} {line at : ℕ} (a : InText t sheet last before line at) where
+  -- It has no LF.
+  line-unended : length t ≤ nextOf t at lf → laidOut 1 line noRows ≡ answerOf t
+  unfolding judgeLines
+  line-unended e =
+      let low = a .low in
+      let c = a .count in
+      let l = length-drop at t in
+      let rest = ne-eqb (length (drop at t)) 0 (λ z. omega arith) in
+      let place : suc (length (a .lines)) ≡ line = omega arith in
+      refusal 1 line ∙ rw (part-last t at lf refl (omega arith) e, rest, lt-ltb (length (a .lines)) 1024 (a .room), place) at (a .goes)
 
-      pub row-begins : (end ≡ length t → ⊥) → AtRow t sheet last before (line + 1) at end (take (end - at) (drop at t))
-      row-begins n =
-          let low = a .low in
-          let c = a .count in
-          let high = next-high t at lf low in
-          let first = next-low t at lf in
-          record { lines = a .lines; along = a .along; count = omega arith; room = fits; begins = omega arith; low = omega arith; goes = rw (sym (part-more t at lf is low (omega arith))) (a .goes) }
+  row-ends : {end : ℕ} → end ≡ nextOf t at lf → end < length t → AtRow t sheet last before line at end (lineAt t at)
+  unfolding lineAt
+  row-ends {end} is lt =
+      let low = a .low in
+      let first = next-low t at lf in
+      record { lines = a .lines; along = a .along; count = a .count; room = a .room; begins = omega arith; low = lt; goes = rw (sym is, sym (part-more t at lf is (omega arith) lt)) (a .goes) }
 
 module _ {t : List ℕ} {sheet : Sheet} {last : ℕ} {before : List Cell} {line at end : ℕ} {row : List ℕ} (a : AtRow t sheet last before line at end row) where
   -- Each line leaves less of the text.
   pub line-less : length t - (end + 1) < length t - at
   line-less = let begins = a .begins in let low = a .low in omega arith
-
-  pub line-fits : end + 1 ≤ length t
-  line-fits = let low = a .low in omega arith
 
   judged-row : (x : Line) → lineOf row ≡ x → sheetOf (pick (allPass (lineChecks (a .lines) x)) (judgeLines (a .lines ++ (x ∷ [])) (splitOn lf (drop (end + 1) t))) (refusedAt (firstFailing (lineChecks (a .lines) x)) line)) ≡ answerOf t
   unfolding judgeLines
@@ -154,7 +163,7 @@ module _ {t : List ℕ} {sheet : Sheet} {last : ℕ} {before : List Cell} {line 
       let fails = false-unless (allPass (lineChecks (a .lines) x)) (λ p. n (sym e ∙ none-fails _ p)) in
       refusal number line ∙ rw (fails, e) at (judged-row x says)
 
-  pub row-formless : lineOf row ≡ formless → laidOut 1 line noRows ≡ answerOf t
+  row-formless : lineOf row ≡ formless → laidOut 1 line noRows ≡ answerOf t
   unfolding lineChecks checksBy ownChecks firstFailing
   row-formless says = row-refused formless says (either-way (eqb (length (a .lines)) 0)) (λ z. omega arith)
     where
@@ -278,8 +287,8 @@ module _ {t : List ℕ} {sheet : Sheet} {last : ℕ} {before : List Cell} {line 
     pub price-room : sheet .quoted < 1024
     price-room = quoted-room (along .good) (here .room) (along .is)
 
-    pub price-next : (letter ≡ 68 → ⊥) → (letter ≡ 70 → ⊥) → (letter ≡ 79 → ⊥) → (letter ≡ 83 → ⊥) → {r : PriceRow} {k : Halves} → r ≡ priceFrom cells → k ≡ halvesOf (r .series) → AtLine t (withPrices sheet (set (sheet .highs) (sheet .quoted) (k .high)) (set (sheet .lows) (sheet .quoted) (k .low)) (set (sheet .prices) (sheet .quoted) (r .price)) (sheet .quoted + 1)) letter cells line (end + 1)
-    price-next d f o s is e = rw (e, is) (next-line (says-price (the-last (q .known))) (price-laid (along .good) (here .room) (along .is) (priceFrom cells)))
+    pub price-next : (letter ≡ 68 → ⊥) → (letter ≡ 70 → ⊥) → (letter ≡ 79 → ⊥) → (letter ≡ 83 → ⊥) → {r : PriceRow} → r ≡ priceFrom cells → AtLine t (withPrices sheet (set (sheet .prices) (sheet .quoted) r) (sheet .quoted + 1)) letter cells line (end + 1)
+    price-next d f o s is = rw is (next-line (says-price (the-last (q .known))) (price-laid (along .good) (here .room) (along .is) (priceFrom cells)))
       where
         the-last : Letter letter → letter ≡ 81
         the-last (is-D l) = absurd (d l)
@@ -288,37 +297,68 @@ module _ {t : List ℕ} {sheet : Sheet} {last : ℕ} {before : List Cell} {line 
         the-last (is-S l) = absurd (s l)
         the-last (is-Q l) = l
 
--- The loop is among the fields of a line's row.
-pub record InRow (t : List ℕ) (sheet : Sheet) (last : ℕ) (before : List Cell) (line at end : ℕ) (row : List ℕ) (first letter : ℕ) (cells : List Cell) (k stop : ℕ) : Type 0 where
-  pub at-row : AtRow t sheet last before line at end row
-  pub fields : InFields letterIn formOf 12 row first letter cells k stop
+-- A line that has not the form.
+line-formless-at : {t : List ℕ} {sheet : Sheet} {last : ℕ} {before : List Cell} {line at : ℕ} → InText t sheet last before line at → lineOf (lineAt t at) ≡ formless → laidOut 1 line noRows ≡ answerOf t
+line-formless-at {t} {line = line} {at = at} a says = go (decLt (nextOf t at lf) (length t))
+  where
+    go : Dec (nextOf t at lf < length t) → laidOut 1 line noRows ≡ answerOf t
+    go (yes q) = row-formless (row-ends a refl q) says
+    go (no q) = line-unended a (omega arith)
 
-module _ {t : List ℕ} {sheet : Sheet} {last : ℕ} {before : List Cell} {line at end : ℕ} {row : List ℕ} {first letter : ℕ} {cells : List Cell} {k stop : ℕ} (a : InRow t sheet last before line at end row first letter cells k stop) where
-  module _ (lt : stop < length row) {next : ℕ} (is : next ≡ nextOf row (stop + 1) tab) {kind : Kind} {c : Cell} (kind-is : kind ≡ getD (formOf letter) k Nothing) (cell-is : c ≡ cellOf kind (take (next - (stop + 1)) (drop (stop + 1) row))) where
-    -- A field without its form.
-    pub field-refused : not (c .right) ≡ true → laidOut 1 line noRows ≡ answerOf t
-    field-refused e = row-formless (a .at-row) (line-formless (a .fields) (row-bad (a .fields) lt is kind-is cell-is e))
+-- The loop is among the fields of a line.
+pub record InRow (t : List ℕ) (sheet : Sheet) (last : ℕ) (before : List Cell) (line at first letter : ℕ) (cells : List Cell) (k stop : ℕ) : Type 0 where
+  pub in-text : InText t sheet last before line at
+  pub in-line : InLine letterIn formOf 12 t at first letter cells k stop
 
-    module _ (e : not (c .right) ≡ false) where
-      pub cell-fits : k < 12
-      cell-fits = cell-room (a .fields) lt is kind-is cell-is (form-few letter) e
+module _ {t : List ℕ} {sheet : Sheet} {last : ℕ} {before : List Cell} {line at : ℕ} (a : AtLine t sheet last before line at) (some : at ≡ length t → ⊥) (within : line + 1 ≤ 1024) {stop : ℕ} (is : stop ≡ stopOf t at) where
+  -- The text ends with the letter.
+  pub letter-unended : stop ≡ length t → laidOut 1 (line + 1) noRows ≡ answerOf t
+  letter-unended e = line-unended (line-opens a some within) (let w = stop-within t at (omega arith) (next-low t at lf) in omega arith)
 
-      pub in-row-on : InRow t sheet last before line at end row first letter (set cells k c) (k + 1) next
-      in-row-on = record { at-row = a .at-row; fields = fields-on (a .fields) lt is kind-is cell-is (form-few letter) e }
+  pub letter-high : stop ≤ length t
+  letter-high = let h = stop-high t at (a .low) in omega arith
+
+  pub row-begins : (stop ≡ length t → ⊥) → {letter : ℕ} (cells : List Cell) → letter ≡ letterIn (take (stop - at) (drop at t)) → length cells ≡ 12 → InRow t sheet last before (line + 1) at stop letter cells 0 stop
+  row-begins n cells l long = let h = letter-high in record { in-text = line-opens a some within; in-line = line-begins t at cells is (omega arith) l long }
+
+module _ {t : List ℕ} {sheet : Sheet} {last : ℕ} {before : List Cell} {line at first letter : ℕ} {cells : List Cell} {k stop : ℕ} (a : InRow t sheet last before line at first letter cells k stop) where
+  -- The kind of the next field.
+  module _ {place : ℕ} (place-is : place ≡ placeFor letter) where
+    kind-at : (place + k < 34) × (getD kindTable (place + k) Nothing ≡ getD (formOf letter) k Nothing)
+    kind-at = rw place-is (form-at letter k (a .in-line .fields .fields .few))
+
+    pub kind-fits : place + k < 34
+    kind-fits = kind-at .0
+
+    module _ (is-tab : getD t stop 0 ≡ tab) {f : Field} (is : f ≡ fieldAt (getD kindTable (place + k) Nothing) t (stop + 1)) where
+      -- A field without its form.
+      pub field-refused : not (f .cell .right) ≡ true → laidOut 1 line noRows ≡ answerOf t
+      field-refused e =
+          ⊎-elim (line-unended (a .in-text)) (λ bad. line-formless-at (a .in-text) (line-formless (a .in-line .fields) bad)) (line-bad (a .in-line) is-tab (kind-at .1) is e)
+
+      module _ (e : not (f .cell .right) ≡ false) where
+        pub cell-fits : k < 12
+        cell-fits = line-room (a .in-line) is-tab (kind-at .1) is (form-few letter) e
+
+        pub field-less : length t - f .stop < length t - stop
+        field-less = stop-less (a .in-line) is-tab (kind-at .1) is e
+
+        pub in-row-on : InRow t sheet last before line at first letter (set cells k (f .cell)) (k + 1) (f .stop)
+        in-row-on = record { in-text = a .in-text; in-line = line-on (a .in-line) is-tab (kind-at .1) is (form-few letter) e }
 
   -- Behind the last field.
-  module _ (done : length row ≤ stop) {fields : ℕ} (fields-is : fields ≡ fieldsFor letter) where
+  module _ (no-tab : getD t stop 0 ≡ tab → ⊥) {fields : ℕ} (fields-is : fields ≡ fieldsFor letter) where
     pub fields-refused : (k ≡ fields → ⊥) → laidOut 1 line noRows ≡ answerOf t
-    fields-refused n = row-formless (a .at-row) (line-wrong (a .fields) done (λ e. n (e ∙ sym fields-is)))
+    fields-refused n = line-formless-at (a .in-text) (line-wrong (a .in-line .fields) (line-done (a .in-line) no-tab) (λ e. n (e ∙ sym fields-is)))
 
     -- The line has the form.
-    pub row-said : {number : ℕ} → k ≡ fields → number ≡ numberFor letter cells last before → SaidRow t sheet last before line at end letter cells number
+    pub row-said : {number : ℕ} → k ≡ fields → number ≡ numberFor letter cells last before → SaidRow t sheet last before line at stop letter cells number
     row-said e is =
         record {
-          row = row;
-          at-row = a .at-row;
-          says = line-right (a .fields) done (e ∙ fields-is);
-          known = letter-known (a .fields) done (e ∙ fields-is);
+          row = lineAt t at;
+          at-row = row-ends (a .in-text) (line-end (a .in-line) no-tab) (a .in-line .inside);
+          says = line-right (a .in-line .fields) (line-done (a .in-line) no-tab) (e ∙ fields-is);
+          known = letter-known (a .in-line .fields) (line-done (a .in-line) no-tab) (e ∙ fields-is);
           number-is = is;
         }
 

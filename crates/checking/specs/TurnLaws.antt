@@ -2,20 +2,22 @@
 use mathlib.Core.Path.{_≡_, refl, ap, sym, _∙_}
 use mathlib.Core.Bool.{Bool, true, false}
 use mathlib.Core.List.{List, []}
-use Prim.Native.Nat.{ℕ, _<_, _≤_}
+use Prim.Native.Nat.{ℕ, _+_, _<_, _≤_}
 use native.Mathlib.Omega.{arith}
 use borrow.Author.Tests.{ne-eqb, eqb-true, eqb-false}
 use lib.Dec.{eqb}
-use lib.ListN.{length, take}
+use lib.ListN.{getD, length, take}
 use lib.Seq.{getD-take, take-all}
 use Rattle.laws.specs.Truth.{pick}
 use Rattle.laws.specs.TruthLaws.{by-test}
+use Rattle.lines.specs.declared.Kind.{Kind}
+use Rattle.lines.specs.declared.Kind.the-variants.{Nothing}
 use Rattle.lines.specs.declared.Cell.{Cell}
 use Rattle.lines.specs.Fields.{hasForm, cellsOf}
 use Rattle.lines.specs.CutLaws.{fieldsBehind}
-use Rattle.lines.specs.LoopLaws.{InFields, row-fields, row-wrong, row-done}
+use Rattle.lines.specs.LoopLaws.{InFields, row-fields, row-wrong, row-done, in-table}
 use Rattle.checking.specs.Lines.{formless, headForm, futureForm, optionForm, stockForm, priceForm, cell, futureFrom, optionFrom, stockFrom, priceFrom, letterIn, formOf, said, lineBy, lineFrom, lineOf}
-use Rattle.checking.specs.Facts.{fieldsFor}
+use Rattle.checking.specs.Facts.{kindTable, placeFor, fieldsFor}
 
 -- One of the five letters of a sheet.
 pub data Letter (letter : ℕ) : Type 0 where
@@ -27,13 +29,14 @@ pub data Letter (letter : ℕ) : Type 0 where
 
 -- A letter is one of them, or the form of its lines has no fields and it is told to have thirteen.
 module _ (letter : ℕ) (P : Type 0) (known : Letter letter → P) where
-  pub known-or-not : (formOf letter ≡ [] → ((cs : List Cell) → said letter cs ≡ formless) → fieldsFor letter ≡ 13 → P) → P
-  unfolding formOf said fieldsFor
+  pub known-or-not : (formOf letter ≡ [] → ((cs : List Cell) → said letter cs ≡ formless) → fieldsFor letter ≡ 13 → placeFor letter ≡ 33 → P) → P
+  unfolding formOf said fieldsFor placeFor
   known-or-not other =
       test 68 (λ e. known (is-D e)) (λ d. test 70 (λ e. known (is-F e)) (λ f. test 79 (λ e. known (is-O e)) (λ o. test 83 (λ e. known (is-S e)) (λ s. test 81 (λ e. known (is-Q e)) (λ q.
       other
       (rw (ne-eqb letter 68 d, ne-eqb letter 70 f, ne-eqb letter 79 o, ne-eqb letter 83 s, ne-eqb letter 81 q))
       (λ cs. rw (ne-eqb letter 68 d, ne-eqb letter 70 f, ne-eqb letter 79 o, ne-eqb letter 83 s, ne-eqb letter 81 q))
+      (rw (ne-eqb letter 68 d, ne-eqb letter 70 f, ne-eqb letter 79 o, ne-eqb letter 83 s, ne-eqb letter 81 q))
       (rw (ne-eqb letter 68 d, ne-eqb letter 70 f, ne-eqb letter 79 o, ne-eqb letter 83 s, ne-eqb letter 81 q)))))))
     where
       test : (c : ℕ) → (letter ≡ c → P) → ((letter ≡ c → ⊥) → P) → P
@@ -60,7 +63,28 @@ pub form-few : (letter : ℕ) → length (formOf letter) ≤ 12
 form-few letter =
     known-or-not letter (length (formOf letter) ≤ 12)
     (λ known. let h = known-few known in let e = fields-are known in omega arith)
-    (λ e s f. rw e (omega arith))
+    (λ e s f p. rw e (omega arith))
+
+-- In the table the kinds of a letter's form stand from its place on, and Nothing behind them.
+abbrev Found : ℕ → ℕ → List Kind → Type 0
+Found place k form = (place + k < 34) × (getD kindTable (place + k) Nothing ≡ getD form k Nothing)
+
+known-at : {letter : ℕ} (k : ℕ) → Letter letter → k ≤ length (formOf letter) → Found (placeFor letter) k (formOf letter)
+unfolding formOf placeFor kindTable headForm futureForm optionForm stockForm priceForm
+known-at k (is-D e) h = let few : k ≤ length headForm = rw e at h in rw e (omega arith, in-table kindTable headForm _ 0 refl k few)
+known-at k (is-F e) h = let few : k ≤ length futureForm = rw e at h in rw e (omega arith, in-table kindTable futureForm _ 2 refl k few)
+known-at k (is-O e) h = let few : k ≤ length optionForm = rw e at h in rw e (omega arith, in-table kindTable optionForm _ 5 refl k few)
+known-at k (is-S e) h = let few : k ≤ length stockForm = rw e at h in rw e (omega arith, in-table kindTable stockForm _ 18 refl k few)
+known-at k (is-Q e) h = let few : k ≤ length priceForm = rw e at h in rw e (omega arith, in-table kindTable priceForm _ 28 refl k few)
+
+none-at : (k : ℕ) → k ≤ 0 → Found 33 k []
+unfolding kindTable headForm futureForm optionForm stockForm priceForm
+none-at k h = (omega arith, in-table kindTable [] _ 33 refl k h)
+
+pub form-at : (letter k : ℕ) → k ≤ length (formOf letter) → Found (placeFor letter) k (formOf letter)
+form-at letter k h =
+    known-or-not letter (Found (placeFor letter) k (formOf letter)) (λ known. known-at k known h)
+    (λ e s f p. rw (p, e) (none-at k (let l : length (formOf letter) ≡ 0 = rw e in omega arith)))
 
 -- What a line says goes by no more cells than its form has fields.
 module _ (cs : List Cell) where
@@ -92,7 +116,7 @@ module _ {row : List ℕ} {first letter : ℕ} {cells : List Cell} {k stop : ℕ
     line-wrong n =
         known-or-not letter (lineOf row ≡ formless)
         (λ known. line-formless (row-wrong a done (λ e. n (e ∙ sym (fields-are known)))))
-        (λ e s f. line-is ∙ rw (s (cellsOf (formOf letter) (fieldsBehind row first))) (never (hasForm (formOf letter) (fieldsBehind row first))))
+        (λ e s f p. line-is ∙ rw (s (cellsOf (formOf letter) (fieldsBehind row first))) (never (hasForm (formOf letter) (fieldsBehind row first))))
       where
         never : (t : Bool) → pick t formless formless ≡ formless
         never true = refl
@@ -102,7 +126,7 @@ module _ {row : List ℕ} {first letter : ℕ} {cells : List Cell} {k stop : ℕ
     pub letter-known : k ≡ fieldsFor letter → Letter letter
     letter-known e =
         known-or-not letter (Letter letter) (λ known. known)
-        (λ form s f. let few = a .fields .few in let l : length (formOf letter) ≡ 0 = rw form in absurd (omega arith))
+        (λ form s f p. let few = a .fields .few in let l : length (formOf letter) ≡ 0 = rw form in absurd (omega arith))
 
     pub line-right : k ≡ fieldsFor letter → lineOf row ≡ said letter cells
     unfolding lineBy

@@ -2,21 +2,22 @@
 ghost use mathlib.Core.Path.{_≡_};
 ghost use mathlib.Core.List.{[]};
 ghost use Prim.Native.Nat.{_≤_};
-ghost use lib.ListN.{getD, length, set};
+ghost use lib.ListN.{length, set};
 ghost use Rattle.laws.specs.Order.{isLess, bytesOrder};
 ghost use Rattle.laws.specs.Checks.{firstFailing};
-ghost use Rattle.lines.specs.declared.Kind.the-variants.{Nothing};
 ghost use Rattle.lines.specs.Parts.{lf, splitOn};
+ghost use Rattle.lines.specs.Fields.{fieldAt};
 ghost use Rattle.sheets.specs.Rows.{found};
 ghost use Rattle.sheets.specs.Sheet.{futurePlace, optionPlace};
-ghost use Rattle.checking.specs.Lines.{headForm, futureForm, optionForm, stockForm, priceForm, letterIn, formOf, head, future, option, stock, price, futureFrom, optionFrom, stockFrom, priceFrom, said, rank, twoCapitals, isQuoted, ownChecks};
+ghost use Rattle.checking.specs.Lines.{letterIn, head, future, option, stock, price, futureFrom, optionFrom, stockFrom, priceFrom, said, rank, twoCapitals, isQuoted, ownChecks};
 ghost use Rattle.checking.specs.Reading.{judgeLines, sheetOf, readText, checkText};
-ghost use Rattle.checking.specs.Facts.{fieldsFor, groupFor, numberFor};
+ghost use Rattle.checking.specs.Facts.{placeFor, fieldsFor, groupFor, numberFor};
 use amounts::IndexLine;
 use amounts::StockLine;
 use codes::Class;
 use levels::Levels;
 use lines::Cell;
+use lines::Field;
 use lines::Kind;
 use sheets::Found;
 use sheets::FutureRow;
@@ -53,9 +54,13 @@ fn letter_of(t: &[u8]) -> u8
     0
 }
 
-const FUTURE: [Kind; 2] = [Kind::Code, Kind::Number];
-
-const OPTION: [Kind; 12] = [
+// The kinds of the fields of the forms D, F, O, S and Q, one form behind the other; Nothing stands between and behind them.
+const KINDS: [Kind; 34] = [
+    Kind::Date,
+    Kind::Nothing,
+    Kind::Code,
+    Kind::Number,
+    Kind::Nothing,
     Kind::Code,
     Kind::Number,
     Kind::Number,
@@ -68,9 +73,7 @@ const OPTION: [Kind; 12] = [
     Kind::Number,
     Kind::Number,
     Kind::Number,
-];
-
-const STOCK: [Kind; 9] = [
+    Kind::Nothing,
     Kind::Code,
     Kind::Number,
     Kind::Number,
@@ -80,72 +83,40 @@ const STOCK: [Kind; 9] = [
     Kind::Number,
     Kind::Number,
     Kind::Number,
-];
-
-const PRICE: [Kind; 5] = [
+    Kind::Nothing,
     Kind::Code,
     Kind::Date,
     Kind::Mark,
     Kind::Number,
     Kind::Number,
+    Kind::Nothing,
 ];
 
-fn head_kind(k: usize) -> Kind
-    ensures { λ r. ⌜ r ≡ getD headForm k Nothing ⌝ }
+// The field of a kind that begins at `from`.
+fn field_at(kind: Kind, t: &[u8], from: usize) -> Field
+    ensures { λ r. ⌜ r ≡ fieldAt kind (now (t .entry)) from ⌝ }
 {
-    if 1 <= k {
-        return Kind::Nothing;
+    match kind {
+        Kind::Nothing => lines::no_field(),
+        Kind::Number => lines::number_at(t, from),
+        Kind::Account => lines::account_at(t, from),
+        Kind::Date => lines::date_at(t, from),
+        Kind::Code => lines::code_at(t, from),
+        Kind::Mark => lines::mark_at(t, from),
     }
-    Kind::Date
 }
 
-fn future_kind(k: usize) -> Kind
-    ensures { λ r. ⌜ r ≡ getD futureForm k Nothing ⌝ }
-{
-    if 2 <= k {
-        return Kind::Nothing;
-    }
-    FUTURE[k]
-}
-
-fn option_kind(k: usize) -> Kind
-    ensures { λ r. ⌜ r ≡ getD optionForm k Nothing ⌝ }
-{
-    if 12 <= k {
-        return Kind::Nothing;
-    }
-    OPTION[k]
-}
-
-fn stock_kind(k: usize) -> Kind
-    ensures { λ r. ⌜ r ≡ getD stockForm k Nothing ⌝ }
-{
-    if 9 <= k {
-        return Kind::Nothing;
-    }
-    STOCK[k]
-}
-
-fn price_kind(k: usize) -> Kind
-    ensures { λ r. ⌜ r ≡ getD priceForm k Nothing ⌝ }
-{
-    if 5 <= k {
-        return Kind::Nothing;
-    }
-    PRICE[k]
-}
-
-// What the form of the letter's line asks of the field k behind the letter.
-fn kind_at(letter: u8, k: usize) -> Kind
-    ensures { λ r. ⌜ r ≡ getD (formOf letter) k Nothing ⌝ }
+// Where the kinds of the form of the letter's line begin.
+fn form_of(letter: u8) -> usize
+    ensures { λ r. ⌜ r ≡ placeFor letter ⌝ }
 {
     match letter {
-        b'D' => head_kind(k),
-        b'F' => future_kind(k),
-        b'O' => option_kind(k),
-        b'S' => stock_kind(k),
-        b'Q' => price_kind(k),
-        _ => Kind::Nothing,
+        b'D' => 0,
+        b'F' => 2,
+        b'O' => 5,
+        b'S' => 18,
+        b'Q' => 28,
+        _ => 33,
     }
 }
 
@@ -397,9 +368,11 @@ fn read_lines(t: &[u8]) -> Sheet
     ensures { λ r. ⌜ r ≡ sheetOf (judgeLines [] (splitOn lf (now (t .entry)))) ⌝ }
 {
     let none = lines::no_cell();
+    let kinds = KINDS;
     let mut sheet = sheets::empty_sheet(0, 0);
     let mut last: u8 = 0;
     let mut before = [none; 12];
+    let mut cells = [none; 12];
     let mut line: u32 = 0;
     let mut at: usize = 0;
     'lines: loop {
@@ -410,24 +383,23 @@ fn read_lines(t: &[u8]) -> Sheet
         if 1024 < line {
             break 'lines sheets::empty_sheet(2, line);
         }
-        let end = lines::next(t, at, b'\n');
-        if end == t.len() {
+        let mut stop = lines::stop_of(t, at);
+        if stop == t.len() {
             break 'lines sheets::empty_sheet(1, line);
         }
-        let row = &t[at..end];
-        let mut stop = lines::next(row, 0, b'\t');
-        let letter = letter_of(&row[0..stop]);
-        let mut cells = [none; 12];
+        let letter = letter_of(&t[at..stop]);
+        let form = form_of(letter);
         let mut k: usize = 0;
-        'fields: while stop < row.len() {
-            let from = stop + 1;
-            stop = lines::next(row, from, b'\t');
-            let cell = lines::cell_of(kind_at(letter, k), &row[from..stop]);
+        'fields: while t[stop] == b'\t' {
+            let kind = kinds[form + k];
+            let field = field_at(kind, t, stop + 1);
+            let cell = field.cell;
             if !cell.right {
                 break 'lines sheets::empty_sheet(1, line);
             }
             cells[k] = cell;
             k += 1;
+            stop = field.stop;
         }
         if k != fields_of(letter) {
             break 'lines sheets::empty_sheet(1, line);
@@ -436,7 +408,7 @@ fn read_lines(t: &[u8]) -> Sheet
         if number != 0 {
             break 'lines sheets::empty_sheet(number, line);
         }
-        at = end + 1;
+        at = stop + 1;
         last = letter;
         before = cells;
         if letter == b'D' {
@@ -467,12 +439,8 @@ fn read_lines(t: &[u8]) -> Sheet
             continue 'lines;
         }
         let r = price_row(cells);
-        let s = r.series;
-        let key = series::halves_of(s);
         let n = sheet.quoted;
-        sheet.highs[n] = key.high;
-        sheet.lows[n] = key.low;
-        sheet.prices[n] = r.price;
+        sheet.prices[n] = r;
         sheet.quoted = n + 1;
     }
 }

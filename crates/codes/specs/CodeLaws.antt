@@ -1,17 +1,17 @@
 -- Laws of codes: what a test of a code says, and that a code which stands for something is three bytes.
-use mathlib.Core.Path.{_≡_, refl}
+use mathlib.Core.Path.{_≡_, refl, ap, sym, _∙_, subst}
 use mathlib.Core.Bool.{Bool, true, false}
-use mathlib.Core.List.{List, map}
-use Prim.Native.Nat.{ℕ, _<_}
+use mathlib.Core.List.{List, [], _∷_, map}
+use Prim.Native.Nat.{ℕ, _+_, _*_, _%_, _<_}
 use native.Mathlib.Omega.{arith}
 use lib.Dec.{eqb, ltb}
-use lib.ListN.{length, getD}
-use borrow.Author.Tests.{eq-eqb, eqb-true, ltb-true}
+use lib.ListN.{length, getD, drop}
+use borrow.Author.Tests.{eq-eqb, eqb-true, ne-eqb, ltb-true}
 use Rattle.laws.specs.Truth.{pick, both}
-use Rattle.laws.specs.TruthLaws.{both-true, within-true, clash}
+use Rattle.laws.specs.TruthLaws.{both-true, within-true, clash, picked}
 use Rattle.laws.specs.Text.{byte}
 use Rattle.laws.specs.Bytes.{sameBytes}
-use Rattle.laws.specs.ByteLaws.{are-same}
+use Rattle.laws.specs.ByteLaws.{are-same, same-self}
 use Rattle.laws.specs.Search.{firstWhere, everyLine}
 use Rattle.laws.specs.SearchLaws.{found-has}
 use Rattle.codes.specs.declared.Class.the-variants.{StockFuture, StockOption}
@@ -72,7 +72,63 @@ known-three code =
     (λ p t e k. rw (are-same code (p .code) e) (is-three (p .code) t))
     (unlisted-three code)
 
+-- What a table's lines are each kept by, the line that is found is kept by; and a line that its own test rules out is not found.
+found-fixed : {A : Type 0} (f : A → A) (named : A → Bool) (none : A) → f none ≡ none → (ls : List A) → map f ls ≡ ls → f (firstWhere named (λ (x : A). x) none ls) ≡ firstWhere named (λ (x : A). x) none ls
+unfolding firstWhere
+found-fixed f named none k [] e = k
+found-fixed {A} f named none k (l ∷ ls) e =
+    picked (λ (x : A). f x ≡ x) (named l) l (firstWhere named (λ (x : A). x) none ls)
+    (λ q. ap (λ (m : List A). getD m 0 l) e)
+    (λ q. found-fixed f named none k ls (ap (λ (m : List A). drop 1 m) e))
+
+none-named : {A B : Type 0} (f : A → A) (named : A → Bool) (made : A → B) (none : B) (ls : List A) → map f ls ≡ ls → ((l : A) → f l ≡ l → named l ≡ true → ⊥) → firstWhere named made none ls ≡ none
+unfolding firstWhere
+none-named f named made none [] e h = refl
+none-named {A} {B} f named made none (l ∷ ls) e h =
+    picked (λ (x : B). x ≡ none) (named l) (made l) (firstWhere named made none ls)
+    (λ q. absurd (h l (ap (λ (m : List A). getD m 0 l) e) q))
+    (λ q. none-named f named made none ls (ap (λ (m : List A). drop 1 m) e) h)
+
 -- Each of the sixteen stands for its own line: none hides another.
 pub listed-stand : map (λ (p : Product). productOf (p .code)) listed ≡ listed
 unfolding productOf listed firstWhere sameBytes
 listed-stand = refl
+
+nothing-stands : productOf (0 ∷ 0 ∷ 0 ∷ []) ≡ unknown (0 ∷ 0 ∷ 0 ∷ [])
+unfolding productOf listed firstWhere sameBytes unlisted namesStock
+nothing-stands = refl
+
+-- The mark of a code, of its second and third byte, and the listed line of a mark.
+unfoldable pub markOf : List ℕ → ℕ
+markOf code = (getD code 1 0 * 3 + getD code 2 0) % 32
+
+unfoldable pub lineOf : ℕ → Product
+lineOf mark = firstWhere (λ (p : Product). eqb mark (markOf (p .code))) (λ (p : Product). p) (unknown (0 ∷ 0 ∷ 0 ∷ [])) listed
+
+-- Each of the sixteen is the line of its own mark: no two have the same.
+listed-marked : map (λ (p : Product). lineOf (markOf (p .code))) listed ≡ listed
+unfolding lineOf markOf listed firstWhere
+listed-marked = refl
+
+-- The line that is found for a mark spells a code that stands for it, or no line is found.
+line-stands : (mark : ℕ) → productOf (lineOf mark .code) ≡ lineOf mark
+unfolding lineOf
+line-stands mark = found-fixed (λ (p : Product). productOf (p .code)) (λ (p : Product). eqb mark (markOf (p .code))) (unknown (0 ∷ 0 ∷ 0 ∷ [])) nothing-stands listed listed-stand
+
+-- So a code is the line of its mark where that spells it, and unlisted where it does not.
+pub marked-line : (code : List ℕ) {line : Product} → line ≡ lineOf (markOf code) → sameBytes code (line .code) ≡ true → line ≡ productOf code
+marked-line code {line} is e = is ∙ sym (line-stands (markOf code)) ∙ ap productOf (sym (are-same code (lineOf (markOf code) .code) (subst (λ (p : Product). sameBytes code (p .code) ≡ true) is e)))
+
+pub no-marked-line : (code : List ℕ) {line : Product} → line ≡ lineOf (markOf code) → sameBytes code (line .code) ≡ false → unlisted code ≡ productOf code
+unfolding productOf
+no-marked-line code {line} is e =
+    sym (none-named (λ (p : Product). lineOf (markOf (p .code))) (λ (p : Product). sameBytes code (p .code)) (λ (p : Product). p) (unlisted code) listed listed-marked
+    (λ p own named. clash (own-line p own (are-same code (p .code) named)) e))
+  where
+    own-line : (p : Product) → lineOf (markOf (p .code)) ≡ p → code ≡ p .code → sameBytes code (line .code) ≡ true
+    own-line p own q = rw (is, q, own) (same-self (p .code))
+
+-- A mark that is none of theirs has no line.
+pub no-mark : (mark : ℕ) → (mark ≡ 8 → ⊥) → (mark ≡ 20 → ⊥) → (mark ≡ 13 → ⊥) → (mark ≡ 15 → ⊥) → (mark ≡ 21 → ⊥) → (mark ≡ 18 → ⊥) → (mark ≡ 24 → ⊥) → (mark ≡ 27 → ⊥) → (mark ≡ 16 → ⊥) → (mark ≡ 14 → ⊥) → (mark ≡ 2 → ⊥) → (mark ≡ 28 → ⊥) → (mark ≡ 23 → ⊥) → (mark ≡ 30 → ⊥) → (mark ≡ 1 → ⊥) → (mark ≡ 4 → ⊥) → lineOf mark ≡ unknown (0 ∷ 0 ∷ 0 ∷ [])
+unfolding lineOf markOf listed firstWhere
+no-mark mark n0 n1 n2 n3 n4 n5 n6 n7 n8 n9 n10 n11 n12 n13 n14 n15 = rw (ne-eqb mark 8 n0, ne-eqb mark 20 n1, ne-eqb mark 13 n2, ne-eqb mark 15 n3, ne-eqb mark 21 n4, ne-eqb mark 18 n5, ne-eqb mark 24 n6, ne-eqb mark 27 n7, ne-eqb mark 16 n8, ne-eqb mark 14 n9, ne-eqb mark 2 n10, ne-eqb mark 28 n11, ne-eqb mark 23 n12, ne-eqb mark 30 n13, ne-eqb mark 1 n14, ne-eqb mark 4 n15)

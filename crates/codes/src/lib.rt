@@ -1,8 +1,11 @@
 // Codes: the sixteen listed ones, the stocks' codes, and what stands behind each.
 ghost use mathlib.Core.Path.{_≡_};
+ghost use Prim.Native.Nat.{_<_};
 ghost use Rattle.laws.specs.Bytes.{sameBytes};
 ghost use Rattle.laws.specs.Order.{bytesOrder};
 ghost use Rattle.codes.specs.Codes.{productOf, namesStock, unlisted, stock, unknown, capital, known, isFutureClass, isOptionClass, isStockFuture, isStockOption, ownOption};
+ghost use Rattle.codes.specs.CodeLaws.{markOf, lineOf};
+ghost use Rattle.codes.specs.declared.Class.the-variants.{ListedFuture, ListedOption};
 use laws::Order;
 
 // What kind of product a code is.
@@ -21,105 +24,6 @@ pub struct Product {
     pub parent: [u8; 3],
     pub part: u32,
 }
-
-const LISTED: [Product; 16] = [
-    Product {
-        code: *b"TX\0",
-        class: Class::ListedFuture,
-        parent: *b"TX\0",
-        part: 1,
-    },
-    Product {
-        code: *b"MTX",
-        class: Class::ListedFuture,
-        parent: *b"TX\0",
-        part: 4,
-    },
-    Product {
-        code: *b"TMF",
-        class: Class::ListedFuture,
-        parent: *b"TX\0",
-        part: 20,
-    },
-    Product {
-        code: *b"TE\0",
-        class: Class::ListedFuture,
-        parent: *b"TE\0",
-        part: 1,
-    },
-    Product {
-        code: *b"ZEF",
-        class: Class::ListedFuture,
-        parent: *b"TE\0",
-        part: 8,
-    },
-    Product {
-        code: *b"TF\0",
-        class: Class::ListedFuture,
-        parent: *b"TF\0",
-        part: 1,
-    },
-    Product {
-        code: *b"ZFF",
-        class: Class::ListedFuture,
-        parent: *b"TF\0",
-        part: 4,
-    },
-    Product {
-        code: *b"TGF",
-        class: Class::ListedFuture,
-        parent: *b"TGF",
-        part: 1,
-    },
-    Product {
-        code: *b"UNF",
-        class: Class::ListedFuture,
-        parent: *b"UNF",
-        part: 1,
-    },
-    Product {
-        code: *b"SXF",
-        class: Class::ListedFuture,
-        parent: *b"SXF",
-        part: 1,
-    },
-    Product {
-        code: *b"GTF",
-        class: Class::ListedFuture,
-        parent: *b"GTF",
-        part: 1,
-    },
-    Product {
-        code: *b"G2F",
-        class: Class::ListedFuture,
-        parent: *b"G2F",
-        part: 1,
-    },
-    Product {
-        code: *b"TXO",
-        class: Class::ListedOption,
-        parent: *b"TX\0",
-        part: 1,
-    },
-    Product {
-        code: *b"TEO",
-        class: Class::ListedOption,
-        parent: *b"TE\0",
-        part: 1,
-    },
-    Product {
-        code: *b"TFO",
-        class: Class::ListedOption,
-        parent: *b"TF\0",
-        part: 1,
-    },
-    Product {
-        code: *b"TGO",
-        class: Class::ListedOption,
-        parent: *b"TGF",
-        part: 1,
-    },
-];
 
 pub fn same_code(x: [u8; 3], y: [u8; 3]) -> bool
     ensures { λ r. ⌜ r ≡ sameBytes x y ⌝ }
@@ -187,19 +91,76 @@ fn unlisted_code(code: [u8; 3]) -> Product
     unknown_code(code)
 }
 
-// What a code stands for.
+// A line of the listed futures: its code, the full-size future behind it, and which part of that future it is.
+fn future_line(code: [u8; 3], parent: [u8; 3], part: u32) -> Product
+    ensures { λ r. ⌜ r ≡ record { code = code; class = ListedFuture; parent = parent; part = part } ⌝ }
+{
+    Product {
+        code,
+        class: Class::ListedFuture,
+        parent,
+        part,
+    }
+}
+
+// A line of the listed options: its code and its parent future.
+fn option_line(code: [u8; 3], parent: [u8; 3]) -> Product
+    ensures { λ r. ⌜ r ≡ record { code = code; class = ListedOption; parent = parent; part = 1 } ⌝ }
+{
+    Product {
+        code,
+        class: Class::ListedOption,
+        parent,
+        part: 1,
+    }
+}
+
+fn wide(x: u8) -> u32
+    ensures { λ r. ⌜ (r ≡ x) × (r < 256) ⌝ }
+{
+    x as u32
+}
+
+// The mark of a code, of its second and third byte: no two listed codes have the same.
+fn mark_of(code: [u8; 3]) -> u32
+    ensures { λ r. ⌜ r ≡ markOf code ⌝ }
+{
+    (wide(code[1]) * 3 + wide(code[2])) % 32
+}
+
+// The listed line of a mark.
+fn line_of(mark: u32) -> Product
+    ensures { λ r. ⌜ r ≡ lineOf mark ⌝ }
+{
+    match mark {
+        8 => future_line(*b"TX\0", *b"TX\0", 1),
+        20 => future_line(*b"MTX", *b"TX\0", 4),
+        13 => future_line(*b"TMF", *b"TX\0", 20),
+        15 => future_line(*b"TE\0", *b"TE\0", 1),
+        21 => future_line(*b"ZEF", *b"TE\0", 8),
+        18 => future_line(*b"TF\0", *b"TF\0", 1),
+        24 => future_line(*b"ZFF", *b"TF\0", 4),
+        27 => future_line(*b"TGF", *b"TGF", 1),
+        16 => future_line(*b"UNF", *b"UNF", 1),
+        14 => future_line(*b"SXF", *b"SXF", 1),
+        2 => future_line(*b"GTF", *b"GTF", 1),
+        28 => future_line(*b"G2F", *b"G2F", 1),
+        23 => option_line(*b"TXO", *b"TX\0"),
+        30 => option_line(*b"TEO", *b"TE\0"),
+        1 => option_line(*b"TFO", *b"TF\0"),
+        4 => option_line(*b"TGO", *b"TGF"),
+        _ => unknown_code([0; 3]),
+    }
+}
+
+// What a code stands for: the one listed line that can spell it, byte by byte, or else a stock's.
 pub fn product_of(code: [u8; 3]) -> Product
     ensures { λ r. ⌜ r ≡ productOf code ⌝ }
 {
-    let lines = LISTED;
-    let mut i: usize = 0;
-    while i < 16 {
-        let p = lines[i];
-        let listed = p.code;
-        if same_code(code, listed) {
-            return p;
-        }
-        i += 1;
+    let line = line_of(mark_of(code));
+    let listed = line.code;
+    if same_code(code, listed) {
+        return line;
     }
     unlisted_code(code)
 }

@@ -29,15 +29,21 @@ pub fn days_in(year: u32, month: u32) -> u32
     if is_short(month) { 30 } else { 31 }
 }
 
-// Whether a number is a day written yyyymmdd.
+// Whether a number is a day written yyyymmdd. Every month has the days 1 to 28.
 pub fn is_day(date: u32) -> bool
     ensures { λ r. ⌜ r ≡ isDay date ⌝ }
 {
     let year = date / 10000;
     let month = date / 100 % 100;
-    let last = days_in(year, month);
-    let days = laws::in_range(1, last, date % 100);
-    let months = laws::in_range(1, 12, month);
-    let years = laws::in_range(2000, 2099, year);
-    laws::and(years, laws::and(months, days))
+    let day = date % 100;
+    if !laws::in_range(2000, 2099, year) {
+        return false;
+    }
+    if !laws::in_range(1, 12, month) {
+        return false;
+    }
+    if laws::in_range(1, 28, day) {
+        return true;
+    }
+    laws::in_range(1, days_in(year, month), day)
 }

@@ -163,7 +163,12 @@ fn stock_of(sheet: Sheet, code: [u8; 3]) -> StockLine {
 
 fn price_of(sheet: Sheet, cells: [Cell; 4]) -> Found {
     let s = lines::series_of(cells[0], cells[1], cells[2], cells[3]);
-    sheets::price_of(&sheet.highs, &sheet.lows, &sheet.prices, sheet.quoted, s)
+    let k = series::halves_of(s);
+    let rows = sheet.prices;
+    let highs = [k.high; 1];
+    let lows = [k.low; 1];
+    let found = sheets::prices_of(rows, sheet.quoted, &highs, &lows, 1);
+    found[0]
 }
 
 // What a question's field k is read as.

@@ -8,13 +8,14 @@ use native.Mathlib.Decide.{decLt}
 use borrow.Author.Tests.{lt-ltb, le-ltb, ltb-true, ltb-false}
 use lib.Dec.{ltb}
 use lib.ListN.{getD, length}
-use Rattle.laws.specs.declared.Order.the-variants.{Less}
+use Rattle.laws.specs.declared.Order.{Order}
+use Rattle.laws.specs.declared.Order.the-variants.{Less, Same}
 use Rattle.laws.specs.Truth.{pick, both}
 use Rattle.laws.specs.TruthLaws.{both-true, by-test, picked, clash, false-unless}
 use Rattle.laws.specs.Bytes.{sameBytes}
 use Rattle.laws.specs.ByteLaws.{are-same, same-self}
-use Rattle.laws.specs.Order.{isLess, bytesOrder}
-use Rattle.laws.specs.OrderLaws.{text-before, not-before-self, is-less-says}
+use Rattle.laws.specs.Order.{orderOf, isLess, thenBy, bytesOrder}
+use Rattle.laws.specs.OrderLaws.{is-less, is-same, is-more, split, text-before, not-before-self, is-less-says}
 use Rattle.halving.specs.Halving.{keyAt, middle, halved, placeOf, findIn, Rising, PlaceIs}
 
 -- Any number of steps that is not too small comes to the same place.
@@ -74,6 +75,31 @@ module _ {highs lows k : List ℕ} {w low high : ℕ} (a : AtHalf highs lows k w
 
   pub half-ends : high ≤ low → low ≡ w
   half-ends le = sym (a .goes ∙ stays _ (high - low) low high le)
+
+-- Whether the key in the middle is before k: by its higher half, or by its lower one where the higher ones are the same.
+module _ {highs lows : List ℕ} {h l w low high : ℕ} (a : AtHalf highs lows (h ∷ l ∷ []) w low high) (lt : low < high) where
+  pub higher-before : getD highs (middle low high) 0 < h → AtHalf highs lows (h ∷ l ∷ []) w (middle low high + 1) high
+  unfolding bytesOrder
+  higher-before q = half-up a lt (rw (sym (is-less q))) refl
+
+  pub higher-behind : h < getD highs (middle low high) 0 → AtHalf highs lows (h ∷ l ∷ []) w low (middle low high)
+  unfolding bytesOrder
+  higher-behind q = half-down a lt (rw (sym (is-more q))) refl
+
+  module _ (from : h ≤ getD highs (middle low high) 0) (to : getD highs (middle low high) 0 ≤ h) where
+    same-higher : Same ≡ orderOf (getD highs (middle low high) 0) h
+    same-higher = is-same (omega arith)
+
+    pub lower-before : getD lows (middle low high) 0 < l → AtHalf highs lows (h ∷ l ∷ []) w (middle low high + 1) high
+    unfolding bytesOrder
+    lower-before q = half-up a lt (rw (sym same-higher, sym (is-less q))) refl
+
+    pub lower-behind : l ≤ getD lows (middle low high) 0 → AtHalf highs lows (h ∷ l ∷ []) w low (middle low high)
+    unfolding bytesOrder
+    lower-behind q =
+        half-down a lt
+        (rw (sym same-higher) (split (λ (o : Order). false ≡ isLess (thenBy o Same)) (getD lows (middle low high) 0) l (λ z. absurd (omega arith)) (λ z. refl) (λ z. refl)))
+        refl
 
 -- The key at the place that halving comes to, or that it is none.
 module _ (highs lows : List ℕ) (count high low : ℕ) {p top : ℕ} (is : p ≡ placeOf highs lows count (high ∷ low ∷ [])) (room : top ≡ min count (min (length highs) (length lows))) where

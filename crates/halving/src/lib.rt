@@ -2,20 +2,13 @@
 ghost use mathlib.Core.Path.{_≡_};
 ghost use mathlib.Core.List.{[], _∷_};
 ghost use Prim.Native.Nat.{min};
-ghost use Rattle.laws.specs.Order.{isLess, bytesOrder};
 ghost use Rattle.halving.specs.Halving.{placeOf, findIn};
 
-fn lower(x: usize, y: usize) -> usize
+// The lower of two numbers.
+pub fn lower(x: usize, y: usize) -> usize
     ensures { λ r. ⌜ r ≡ min x y ⌝ }
 {
     if x < y { x } else { y }
-}
-
-// Whether one key is before another.
-fn is_before(high: u64, low: u64, other: u64, lower: u64) -> bool
-    ensures { λ r. ⌜ r ≡ isLess (bytesOrder (high ∷ low ∷ []) (other ∷ lower ∷ [])) ⌝ }
-{
-    laws::is_less(laws::then_by(laws::order_of(high, other), laws::order_of(low, lower)))
 }
 
 // The place among the first `count` keys where they stop being before the key, if they rise.
@@ -26,7 +19,16 @@ pub fn place_of<'a>(highs: &'a [u64], lows: &'a [u64], count: usize, high: u64, 
     let mut to = lower(count, lower(highs.len(), lows.len()));
     while from < to {
         let mid = from + (to - from) / 2;
-        if is_before(highs[mid], lows[mid], high, low) {
+        let at = highs[mid];
+        if at < high {
+            from = mid + 1;
+            continue;
+        }
+        if high < at {
+            to = mid;
+            continue;
+        }
+        if lows[mid] < low {
             from = mid + 1;
             continue;
         }

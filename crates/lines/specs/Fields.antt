@@ -3,9 +3,9 @@
 -- no form of their own: a field that is none is read as what no code, no identity and no nature is.
 use mathlib.Core.Bool.{Bool, true, false, not}
 use mathlib.Core.List.{List, [], _∷_, _++_}
-use Prim.Native.Nat.{ℕ}
-use lib.Dec.{eqb}
-use lib.ListN.{length, getD}
+use Prim.Native.Nat.{ℕ, _-_}
+use lib.Dec.{eqb, ltb}
+use lib.ListN.{length, getD, take, drop}
 use Rattle.laws.specs.Truth.{pick, both}
 use Rattle.laws.specs.Text.{byte}
 use Rattle.series.specs.declared.Nature.{Nature}
@@ -16,6 +16,8 @@ use Rattle.digits.specs.Digits.{isNumber, isFixed, figureOf}
 use Rattle.lines.specs.declared.Kind.{Kind}
 use Rattle.lines.specs.declared.Kind.the-variants.{Nothing, Number, Account, Date, Code, Mark}
 use Rattle.lines.specs.declared.Cell.{Cell}
+use Rattle.lines.specs.declared.Field.{Field}
+use Rattle.lines.specs.Parts.{stopOf}
 
 abbrev pub noCode : List ℕ
 noCode = 0 ∷ 0 ∷ 0 ∷ []
@@ -42,6 +44,28 @@ cellOf Mark f = record { right = true; number = markIn f; code = noCode }
 
 abbrev pub noCell : Cell
 noCell = cellOf Nothing []
+
+-- the bytes of the field that begins at from
+abbrev pub fieldText : List ℕ → ℕ → List ℕ
+fieldText t from = take (stopOf t from - from) (drop from t)
+
+abbrev pub noField : Field
+noField = record { cell = noCell; stop = 0 }
+
+abbrev pub numberField : ℕ → ℕ → Field
+numberField n stop = record { cell = record { right = true; number = n; code = noCode }; stop = stop }
+
+-- the field that begins at from, in which c stands: if it has its form and a tab or LF stands behind it, c and the place of that
+unfoldable pub fieldWith : Cell → List ℕ → ℕ → Field
+fieldWith c t from = pick (both (ltb (stopOf t from) (length t)) (c .right)) (record { cell = c; stop = stopOf t from }) noField
+
+-- the field of a kind that begins at from
+unfoldable pub fieldAt : Kind → List ℕ → ℕ → Field
+fieldAt kind t from = fieldWith (cellOf kind (fieldText t from)) t from
+
+-- a field of digits, by the test of its form
+abbrev pub figureAt : (List ℕ → Bool) → List ℕ → ℕ → Field
+figureAt right t from = fieldWith (numberCell (figureOf (right (fieldText t from)) (fieldText t from))) t from
 
 -- the fields are as many as the kinds, and each has its form
 unfoldable pub hasForm : List Kind → List (List ℕ) → Bool

@@ -2,6 +2,8 @@ pub mod Parts
 pub mod Fields
 pub mod Texts
 pub mod CutLaws
+pub mod StopLaws
+pub mod RunLaws
 pub mod CellLaws
 pub mod PartLaws
 pub mod FieldLaws

@@ -1,21 +1,27 @@
 -- Laws of the loop over the fields of a line: a letter, then field by field what the form of the letter's line asks for. They are over
 -- any letters and forms, so that every reader of lines has them.
 use mathlib.Core.Path.{_≡_, refl, ap, sym, _∙_}
-use mathlib.Core.Bool.{true, false, not}
-use mathlib.Core.List.{List, _∷_, _++_, append-nil}
-use Prim.Native.Nat.{ℕ, _+_, _-_, _<_, _≤_}
+use mathlib.Core.Logic.{_⊎_, inl, inr, ⊎-elim}
+use mathlib.Core.Bool.{Bool, true, false, not}
+use mathlib.Core.List.{List, [], _∷_, _++_, append-nil}
+use Prim.Native.Nat.{ℕ, zero, suc, _+_, _-_, _<_, _≤_}
 use native.Mathlib.Omega.{arith}
 use native.Mathlib.Decide.{decLt}
 use native.Mathlib.Numerals.{add-one}
+use borrow.Author.Tests.{ltb-true, ltb-false, not-true}
+use lib.Dec.{ltb}
 use lib.ListN.{getD, length, take, drop, set, length-set, drop-of-length-le, List·getD-eq-default}
-use lib.Seq.{append-snoc, drop-cons, take-suc-set}
-use Rattle.laws.specs.TruthLaws.{clash, failed, passed}
+use lib.Seq.{append-snoc, drop-cons, take-suc-set, getD-drop}
+use Rattle.laws.specs.Truth.{pick, both}
+use Rattle.laws.specs.TruthLaws.{clash, failed, passed, both-true, both-hold, by-test, false-unless}
 use Rattle.lines.specs.declared.Kind.{Kind}
 use Rattle.lines.specs.declared.Kind.the-variants.{Nothing}
 use Rattle.lines.specs.declared.Cell.{Cell}
-use Rattle.lines.specs.Parts.{tab, fieldsOf, nextOf}
-use Rattle.lines.specs.Fields.{cellOf, hasForm, cellsOf}
-use Rattle.lines.specs.CutLaws.{next-low, next-high, fieldsBehind, field-next, field-more, field-none}
+use Rattle.lines.specs.declared.Field.{Field}
+use Rattle.lines.specs.Parts.{tab, lf, fieldsOf, nextOf, stops, stopOf}
+use Rattle.lines.specs.Fields.{cellOf, hasForm, cellsOf, fieldText, noField, fieldWith, fieldAt}
+use Rattle.lines.specs.StopLaws.{stops-lf, stop-low, stop-byte, next-from, next-byte, lineAt, line-length, stop-within, stop-in-line, text-in-line}
+use Rattle.lines.specs.CutLaws.{next-here, next-low, next-high, fieldsBehind, field-next, field-more, field-none}
 
 -- The place that a search ends at is inside the text.
 pub ends-low : (t : List ℕ) (at c : ℕ) {end : ℕ} → end ≡ nextOf t at c → at ≤ end
@@ -23,6 +29,9 @@ ends-low t at c e = let h = next-low t at c in omega arith
 
 pub ends-high : (t : List ℕ) (at c : ℕ) {end : ℕ} → end ≡ nextOf t at c → at ≤ length t → end ≤ length t
 ends-high t at c e low = let h = next-high t at c low in omega arith
+
+pub stops-low : (t : List ℕ) (at : ℕ) {stop : ℕ} → stop ≡ stopOf t at → at ≤ stop
+stops-low t at e = let h = stop-low t at in omega arith
 
 -- The loop over the fields fs behind the letter, with room for so many cells: k of them are read, and the last of these ends at `stop`.
 pub record AtField (room : ℕ) (row : List ℕ) (form : List Kind) (fs : List (List ℕ)) (cells : List Cell) (k stop : ℕ) : Type 0 where
@@ -97,7 +106,7 @@ pub row-fields : (row : List ℕ) {first : ℕ} → first ≡ nextOf row 0 tab �
 row-fields row is = field-next row 0 (omega arith) is
 
 module _ {letterIn : List ℕ → ℕ} {formOf : ℕ → List Kind} {room : ℕ} where
-  pub fields-begin : (row : List ℕ) {first letter : ℕ} (cells : List Cell) → first ≡ nextOf row 0 tab → letter ≡ letterIn (take (first - 0) (drop 0 row)) → length cells ≡ room → InFields letterIn formOf room row first letter cells 0 first
+  fields-begin : (row : List ℕ) {first letter : ℕ} (cells : List Cell) → first ≡ nextOf row 0 tab → letter ≡ letterIn (take (first - 0) (drop 0 row)) → length cells ≡ room → InFields letterIn formOf room row first letter cells 0 first
   fields-begin row cells is l long =
       let high = next-high row 0 tab (omega arith) in
       record { first-is = is; letter-is = l; fields = record { low = omega arith; few = omega arith; long = long; formed = refl; read = refl } }
@@ -107,20 +116,16 @@ module _ {letterIn : List ℕ → ℕ} {formOf : ℕ → List Kind} {room : ℕ}
       whole : c ≡ cellOf (getD (formOf letter) k Nothing) (take (next - (stop + 1)) (drop (stop + 1) row))
       whole = cell-is ∙ ap (λ (z : Kind). cellOf z (take (next - (stop + 1)) (drop (stop + 1) row))) kind-is
 
-      -- Each field leaves less of the row.
-      pub field-less : length row - next < length row - stop
-      field-less = let low = ends-low row (stop + 1) tab is in omega arith
-
       -- A field without its form: the row has not the form.
-      pub row-bad : not (c .right) ≡ true → hasForm (formOf letter) (fieldsBehind row first) ≡ false
+      row-bad : not (c .right) ≡ true → hasForm (formOf letter) (fieldsBehind row first) ≡ false
       row-bad e = field-bad (a .fields) lt is whole e
 
       -- One with its form has room, and the loop goes on behind it.
       module _ (few : length (formOf letter) ≤ room) (e : not (c .right) ≡ false) where
-        pub cell-room : k < room
+        cell-room : k < room
         cell-room = let h = inside (a .fields) lt is whole e in omega arith
 
-        pub fields-on : InFields letterIn formOf room row first letter (set cells k c) (k + 1) next
+        fields-on : InFields letterIn formOf room row first letter (set cells k c) (k + 1) next
         fields-on = record { first-is = a .first-is; letter-is = a .letter-is; fields = field-read (a .fields) lt is whole e few }
 
     -- Behind the last field the row has the form, and its cells are read, where they are as many as the form's.
@@ -130,3 +135,133 @@ module _ {letterIn : List ℕ → ℕ} {formOf : ℕ → List Kind} {room : ℕ}
 
       pub row-done : k ≡ length (formOf letter) → (hasForm (formOf letter) (fieldsBehind row first) ≡ true) × (take k cells ≡ cellsOf (formOf letter) (fieldsBehind row first))
       row-done e = fields-done (a .fields) end e
+
+-- What is read of a field, and why nothing is.
+module _ (kind : Kind) (t : List ℕ) (from : ℕ) {f : Field} (is : f ≡ fieldAt kind t from) where
+  is-with : (b : Bool) → both (ltb (stopOf t from) (length t)) (cellOf kind (fieldText t from) .right) ≡ b → f ≡ pick b (record { cell = cellOf kind (fieldText t from); stop = stopOf t from }) noField
+  unfolding fieldAt fieldWith
+  is-with b e = is ∙ rw e
+
+  read-right : not (f .cell .right) ≡ false → (stopOf t from < length t) × ((f .stop ≡ stopOf t from) × (f .cell ≡ cellOf kind (fieldText t from)))
+  unfolding cellOf
+  read-right e =
+      by-test (λ (b : Bool). both (ltb (stopOf t from) (length t)) (cellOf kind (fieldText t from) .right) ≡ b → (stopOf t from < length t) × ((f .stop ≡ stopOf t from) × (f .cell ≡ cellOf kind (fieldText t from)))) _
+      (λ q h. let g = is-with true h in (ltb-true _ _ (both-true (ltb (stopOf t from) (length t)) _ h .0), (ap (λ (z : Field). z .stop) g, ap (λ (z : Field). z .cell) g)))
+      (λ q h. absurd (clash (passed (ap (λ (z : Field). z .cell .right) (is-with false h)) e) refl))
+      refl
+
+  read-wrong : not (f .cell .right) ≡ true → (length t ≤ stopOf t from) ⊎ (cellOf kind (fieldText t from) .right ≡ false)
+  read-wrong e =
+      by-test (λ (b : Bool). ltb (stopOf t from) (length t) ≡ b → (length t ≤ stopOf t from) ⊎ (cellOf kind (fieldText t from) .right ≡ false)) (ltb (stopOf t from) (length t))
+      (λ q h. inr (false-unless _ (λ r. clash (ap (λ (z : Field). z .cell .right) (is-with true (both-hold h r)) ∙ r) (not-true _ e))))
+      (λ q h. inl (ltb-false _ _ h))
+      refl
+
+-- In the text: the line begins at `at`, and the last field that is read ends at stop, where a tab or LF stands.
+pub record InLine (letterIn : List ℕ → ℕ) (formOf : ℕ → List Kind) (room : ℕ) (t : List ℕ) (at first letter : ℕ) (cells : List Cell) (k stop : ℕ) : Type 0 where
+  pub begins : at ≤ stop
+  pub inside : stop < length t
+  pub within-line : stop ≤ nextOf t at lf
+  pub ends : stops (getD t stop 0) ≡ true
+  pub fields : InFields letterIn formOf room (lineAt t at) (first - at) letter cells k (stop - at)
+
+module _ {letterIn : List ℕ → ℕ} {formOf : ℕ → List Kind} {room : ℕ} where
+  pub line-begins : (t : List ℕ) (at : ℕ) {stop letter : ℕ} (cells : List Cell) → stop ≡ stopOf t at → stop < length t → letter ≡ letterIn (take (stop - at) (drop at t)) → length cells ≡ room → InLine letterIn formOf room t at stop letter cells 0 stop
+  line-begins t at {stop} cells is lt l long =
+      let low = stops-low t at is in
+      let high = next-low t at lf in
+      let zero-is : at - at ≡ 0 = omega arith in
+      record {
+        begins = low;
+        inside = lt;
+        within-line = rw is (stop-within t at (omega arith) high);
+        ends = rw is (stop-byte t at (rw is at lt));
+        fields = fields-begin (lineAt t at) cells (rw (is, stop-in-line t at {from = at} (omega arith) high, zero-is)) (l ∙ ap letterIn (rw zero-is at (text-in-line t at (omega arith) high is))) long;
+      }
+
+  module _ {t : List ℕ} {at first letter : ℕ} {cells : List Cell} {k stop : ℕ} (a : InLine letterIn formOf room t at first letter cells k stop) where
+    line-low : at ≤ length t
+    line-low = let h = a .begins in let l = a .inside in omega arith
+
+    -- A tab stands inside the line.
+    module _ (is-tab : getD t stop 0 ≡ tab) where
+      tab-before : stop < nextOf t at lf
+      tab-before = go (decLt stop (nextOf t at lf))
+        where
+          go : Dec (stop < nextOf t at lf) → stop < nextOf t at lf
+          go (yes q) = q
+          go (no q) =
+              let h = a .within-line in
+              let l = a .inside in
+              let e : nextOf t at lf ≡ stop = omega arith in
+              let b = rw e at (next-byte t at lf (omega arith)) in
+              absurd (omega arith)
+
+      tab-inside : stop - at < length (lineAt t at)
+      tab-inside = let h = tab-before in let l = line-length t at line-low in let b = a .begins in omega arith
+
+      module _ {kind : Kind} {f : Field} (kind-is : kind ≡ getD (formOf letter) k Nothing) (is : f ≡ fieldAt kind t (stop + 1)) where
+        from-is : stop + 1 - at ≡ stop - at + 1
+        from-is = let b = a .begins in omega arith
+
+        low : at ≤ stop + 1
+        low = let b = a .begins in omega arith
+
+        high : stop + 1 ≤ nextOf t at lf
+        high = let h = tab-before in omega arith
+
+        stop-is : stopOf t (stop + 1) - at ≡ nextOf (lineAt t at) (stop - at + 1) tab
+        stop-is = rw from-is at (stop-in-line t at low high)
+
+        text-is : fieldText t (stop + 1) ≡ take (stopOf t (stop + 1) - at - (stop - at + 1)) (drop (stop - at + 1) (lineAt t at))
+        text-is = rw from-is at (text-in-line t at low high {s = stopOf t (stop + 1)} refl)
+
+        -- Each field leaves less of the text, and each ends inside it.
+        pub stop-less : not (f .cell .right) ≡ false → length t - f .stop < length t - stop
+        stop-less e = let r = read-right kind t (stop + 1) is e in let s = r .1 .0 in let h = r .0 in let l = stop-low t (stop + 1) in omega arith
+
+        -- A field without its form: the line has not the form, or no LF.
+        pub line-bad : not (f .cell .right) ≡ true → (length t ≤ nextOf t at lf) ⊎ (hasForm (formOf letter) (fieldsBehind (lineAt t at) (first - at)) ≡ false)
+        line-bad e =
+            ⊎-elim (λ h. inl (let w = stop-within t at low high in omega arith))
+            (λ r. inr (row-bad (a .fields) tab-inside stop-is {c = cellOf kind (fieldText t (stop + 1))} kind-is (ap (cellOf kind) text-is) (rw r)))
+            (read-wrong kind t (stop + 1) is e)
+
+        module _ (few : length (formOf letter) ≤ room) (e : not (f .cell .right) ≡ false) where
+          cell-is : f .cell ≡ cellOf kind (take (stopOf t (stop + 1) - at - (stop - at + 1)) (drop (stop - at + 1) (lineAt t at)))
+          cell-is = read-right kind t (stop + 1) is e .1 .1 ∙ ap (cellOf kind) text-is
+
+          pub line-room : k < room
+          line-room = cell-room (a .fields) tab-inside stop-is kind-is cell-is few e
+
+          pub line-on : InLine letterIn formOf room t at first letter (set cells k (f .cell)) (k + 1) (f .stop)
+          line-on =
+              let r = read-right kind t (stop + 1) is e in
+              let s = r .1 .0 in
+              let l = stop-low t (stop + 1) in
+              let b = a .begins in
+              record {
+                begins = omega arith;
+                inside = rw s (r .0);
+                within-line = rw s (stop-within t at low high);
+                ends = rw s (stop-byte t (stop + 1) (r .0));
+                fields = rw s (fields-on (a .fields) tab-inside stop-is kind-is cell-is few e);
+              }
+
+    -- Where no tab stands, an LF does, and the line ends.
+    module _ (no-tab : getD t stop 0 ≡ tab → ⊥) where
+      pub line-end : stop ≡ nextOf t at lf
+      line-end = next-here t stop lf (a .inside) (stops-lf (a .ends) no-tab) ∙ next-from t at lf (a .begins) (a .within-line)
+
+      pub line-done : length (lineAt t at) ≤ stop - at
+      line-done = let e = line-end in let l = line-length t at line-low in omega arith
+
+-- A table of kinds, in which the kinds of a form and then Nothing stand from a place on, has the kinds of the form.
+form-then : (form rest : List Kind) (k : ℕ) → k ≤ length form → getD (form ++ (Nothing ∷ rest)) k Nothing ≡ getD form k Nothing
+form-then [] rest zero h = refl
+form-then [] rest (suc k) h = absurd (omega arith)
+form-then (x ∷ form) rest zero h = refl
+form-then (x ∷ form) rest (suc k) h = form-then form rest k (omega arith)
+
+pub in-table : (table form rest : List Kind) (place : ℕ) → drop place table ≡ form ++ (Nothing ∷ rest) → (k : ℕ) → k ≤ length form → getD table (place + k) Nothing ≡ getD form k Nothing
+in-table table form rest place e k h = sym (getD-drop place table k Nothing) ∙ ap (λ (l : List Kind). getD l k Nothing) e ∙ form-then form rest k h

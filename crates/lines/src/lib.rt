@@ -1,8 +1,13 @@
 // Lines and fields: where a line or a field ends, what stands in a field, and the series that four fields write.
 ghost use mathlib.Core.Path.{_≡_};
+ghost use Prim.Native.Nat.{_≤_};
+ghost use lib.ListN.{length};
 ghost use Rattle.laws.specs.Bytes.{sameBytes};
-ghost use Rattle.lines.specs.Parts.{nextOf};
-ghost use Rattle.lines.specs.Fields.{codeIn, markIn, numberCell, noCell, cellOf, natureOf, seriesOf};
+ghost use Rattle.digits.specs.Digits.{isFixed};
+ghost use Rattle.lines.specs.declared.Kind.the-variants.{Number, Account, Date, Code, Mark};
+ghost use Rattle.lines.specs.Parts.{nextOf, stopOf, stopsAt};
+ghost use Rattle.lines.specs.Fields.{codeIn, markIn, numberCell, noCell, cellOf, noField, numberField, fieldAt, figureAt, natureOf, seriesOf};
+ghost use Rattle.lines.specs.RunLaws.{RunIs};
 use digits::Figure;
 use series::Nature;
 use series::Series;
@@ -22,6 +27,18 @@ pub struct Cell {
     pub right: bool,
     pub number: u32,
     pub code: [u8; 3],
+}
+
+// A field in a text: what stands in it, and the place of the tab or LF behind it.
+pub struct Field {
+    pub cell: Cell,
+    pub stop: usize,
+}
+
+// Digits in a text: the number that they write, and the place behind them.
+struct Run {
+    number: u32,
+    stop: usize,
 }
 
 // The place of the first b from `at` on, or the end of the text.
@@ -117,6 +134,162 @@ pub fn cell_of(kind: Kind, t: &[u8]) -> Cell
             code: [0, 0, 0],
         },
     }
+}
+
+// The place of the first tab or LF from `at` on, or the end of the text.
+pub fn stop_of(t: &[u8], at: usize) -> usize
+    ensures { λ r. ⌜ r ≡ stopOf (now (t .entry)) at ⌝ }
+{
+    let mut stop = at;
+    while stop < t.len() {
+        if t[stop] == b'\t' {
+            return stop;
+        }
+        if t[stop] == b'\n' {
+            return stop;
+        }
+        stop += 1;
+    }
+    stop
+}
+
+// Whether a tab or LF stands at i.
+fn stops_at(t: &[u8], i: usize) -> bool
+    ensures { λ r. ⌜ r ≡ stopsAt (now (t .entry)) i ⌝ }
+{
+    if t.len() <= i {
+        return false;
+    }
+    laws::or(t[i] == b'\t', t[i] == b'\n')
+}
+
+// No field.
+pub fn no_field() -> Field
+    ensures { λ r. ⌜ r ≡ noField ⌝ }
+{
+    Field {
+        cell: no_cell(),
+        stop: 0,
+    }
+}
+
+fn number_field(number: u32, stop: usize) -> Field
+    ensures { λ r. ⌜ r ≡ numberField number stop ⌝ }
+{
+    Field {
+        cell: Cell {
+            right: true,
+            number,
+            code: [0, 0, 0],
+        },
+        stop,
+    }
+}
+
+fn least(a: usize, b: usize) -> usize
+    ensures { λ r. ⌜ (r ≤ a) × ((r ≤ b) × ((r ≡ a → ⊥) → r ≡ b)) ⌝ }
+{
+    if a < b { a } else { b }
+}
+
+// The digits from `from` on, at most so many.
+fn run_at(t: &[u8], from: usize, most: usize) -> Run
+    requires { ⌜ (from ≤ length (now t)) × (most ≤ 9) ⌝ }
+    ensures { λ r. ⌜ RunIs (now (t .entry)) from most (r .number) (r .stop) ⌝ }
+{
+    let end = least(from + most, t.len());
+    let mut number: u32 = 0;
+    let mut stop = from;
+    while stop != end {
+        let b = t[stop] as u32;
+        if !laws::in_range(b'0' as u32, b'9' as u32, b) {
+            return Run { number, stop };
+        }
+        number = number * 10 + (b - b'0' as u32);
+        stop += 1;
+    }
+    Run { number, stop }
+}
+
+// The number field that begins at `from`, if it has its form and a tab or LF stands behind it; so the fields of the other kinds.
+pub fn number_at(t: &[u8], from: usize) -> Field
+    ensures { λ r. ⌜ r ≡ fieldAt Number (now (t .entry)) from ⌝ }
+{
+    if t.len() < from {
+        return no_field();
+    }
+    let r = run_at(t, from, 9);
+    let stop = r.stop;
+    if !stops_at(t, stop) {
+        return no_field();
+    }
+    if stop == from {
+        return no_field();
+    }
+    if stop - from == 1 {
+        return number_field(r.number, stop);
+    }
+    if t[from] == b'0' {
+        return no_field();
+    }
+    number_field(r.number, stop)
+}
+
+fn fixed_at(t: &[u8], from: usize, width: usize) -> Field
+    requires { ⌜ width ≤ 9 ⌝ }
+    ensures { λ r. ⌜ r ≡ figureAt (isFixed width) (now (t .entry)) from ⌝ }
+{
+    if t.len() < from {
+        return no_field();
+    }
+    let r = run_at(t, from, width);
+    let stop = r.stop;
+    if !stops_at(t, stop) {
+        return no_field();
+    }
+    if stop - from != width {
+        return no_field();
+    }
+    number_field(r.number, stop)
+}
+
+pub fn account_at(t: &[u8], from: usize) -> Field
+    ensures { λ r. ⌜ r ≡ fieldAt Account (now (t .entry)) from ⌝ }
+{
+    fixed_at(t, from, 7)
+}
+
+pub fn date_at(t: &[u8], from: usize) -> Field
+    ensures { λ r. ⌜ r ≡ fieldAt Date (now (t .entry)) from ⌝ }
+{
+    fixed_at(t, from, 8)
+}
+
+pub fn code_at(t: &[u8], from: usize) -> Field
+    ensures { λ r. ⌜ r ≡ fieldAt Code (now (t .entry)) from ⌝ }
+{
+    let stop = stop_of(t, from);
+    if t.len() <= stop {
+        return no_field();
+    }
+    Field {
+        cell: Cell {
+            right: true,
+            number: 0,
+            code: code_in(&t[from..stop]),
+        },
+        stop,
+    }
+}
+
+pub fn mark_at(t: &[u8], from: usize) -> Field
+    ensures { λ r. ⌜ r ≡ fieldAt Mark (now (t .entry)) from ⌝ }
+{
+    let stop = stop_of(t, from);
+    if t.len() <= stop {
+        return no_field();
+    }
+    number_field(mark_in(&t[from..stop]), stop)
 }
 
 fn nature_of(mark: u32, strike: u32) -> Nature

@@ -1,7 +1,8 @@
 // Which pairs may stand: the rule of each kind, and the sides of a pair's legs.
 ghost use mathlib.Core.Path.{_≡_};
-ghost use Rattle.pairing.specs.Rules.{rule, futureWithOption, noRule, partsOf, pairChecks, pairNumber, mayStand};
+ghost use Rattle.pairing.specs.Rules.{rule, futureWithOption, betweenProducts, noRule, partsOf, pairChecks, pairNumber, mayStand};
 ghost use Rattle.pairing.specs.Sides.{firstSide, secondSide};
+ghost use Rattle.legs.specs.Legs.{sameCode, oneToOne};
 ghost use Rattle.laws.specs.Checks.{firstFailing};
 use series::Series;
 use series::Side;
@@ -56,25 +57,81 @@ fn future_with_option(future: Series, option: Series, r1: u32, r2: u32) -> Parts
     rule_of(codes, natures, true, true, ratio)
 }
 
+// A kind that asks for one code, and for one lot to one.
+fn one_code(
+    a: Series,
+    b: Series,
+    natures: bool,
+    dates: bool,
+    strikes: bool,
+    r1: u32,
+    r2: u32,
+) -> Parts
+    ensures { λ r. ⌜ r ≡ rule (sameCode a b) natures dates strikes (oneToOne r1 r2) ⌝ }
+{
+    rule_of(
+        legs::same_codes(a, b),
+        natures,
+        dates,
+        strikes,
+        legs::one_to_one(r1, r2),
+    )
+}
+
+// Kind 8: futures of two products.
+fn two_products(a: Series, b: Series, r1: u32, r2: u32) -> Parts
+    ensures { λ r. ⌜ r ≡ betweenProducts a b r1 r2 ⌝ }
+{
+    let codes = legs::are_two_products(a, b);
+    let futures = legs::both_futures(a, b);
+    rule_of(codes, futures, true, true, legs::one_to_one(r1, r2))
+}
+
 // Which parts of its kind's rule a pair meets: codes, natures, dates, strikes, ratio.
 pub fn parts_of(kind: u32, a: Series, b: Series, r1: u32, r2: u32) -> Parts
     ensures { λ r. ⌜ r ≡ partsOf kind a b r1 r2 ⌝ }
 {
-    let together = a.date == b.date;
-    let later = b.date < a.date;
-    let same = legs::same_codes(a, b);
-    let alike = legs::same_natures(a, b);
-    let futures = legs::both_futures(a, b);
-    let one = legs::one_to_one(r1, r2);
     match kind {
-        1 => rule_of(same, alike, together, legs::debit_strikes(a, b), one),
-        2 => rule_of(same, alike, together, legs::debit_strikes(b, a), one),
-        3 => rule_of(same, alike, later, true, one),
-        4 => rule_of(same, legs::call_then_put(a, b), true, true, one),
+        1 => one_code(
+            a,
+            b,
+            legs::same_natures(a, b),
+            a.date == b.date,
+            legs::debit_strikes(a, b),
+            r1,
+            r2,
+        ),
+        2 => one_code(
+            a,
+            b,
+            legs::same_natures(a, b),
+            a.date == b.date,
+            legs::debit_strikes(b, a),
+            r1,
+            r2,
+        ),
+        3 => one_code(
+            a,
+            b,
+            legs::same_natures(a, b),
+            b.date < a.date,
+            true,
+            r1,
+            r2,
+        ),
+        4 => one_code(a, b, legs::call_then_put(a, b), true, true, r1, r2),
         5 => future_with_option(a, b, r1, r2),
-        6 => rule_of(same, legs::one_call_one_put(a, b), true, true, one),
-        7 => rule_of(same, futures, !together, true, one),
-        8 => rule_of(legs::are_two_products(a, b), futures, true, true, one),
+        6 => one_code(a, b, legs::one_call_one_put(a, b), true, true, r1, r2),
+        7 => one_code(
+            a,
+            b,
+            legs::both_futures(a, b),
+            a.date != b.date,
+            true,
+            r1,
+            r2,
+        ),
+        8 => two_products(a, b, r1, r2),
         _ => no_rule(),
     }
 }

@@ -1,2 +1,4 @@
 pub mod Printed
+pub mod PartLaws
 pub mod PrintedLaws
+pub mod PlacedLaws

@@ -4,12 +4,11 @@ use mathlib.Core.Bool.{Bool, true, false}
 use mathlib.Core.List.{List, [], _∷_, _++_, append-assoc, append-nil}
 use Prim.Native.Nat.{ℕ, suc, _+_, _*_, _≤_, _<_}
 use native.Mathlib.Nat.{suc-mul}
-use native.Mathlib.Numerals.{add-one}
 use native.Mathlib.Omega.{arith}
-use borrow.Author.Tests.{eq-eqb, ne-eqb, le-leb, lt-leb}
+use borrow.Author.Tests.{le-leb, lt-leb}
 use lib.Dec.{eqb, leb}
 use lib.ListN.{length, getD, take, drop, length-append, length-take}
-use lib.Seq.{take-suc, take-at}
+use lib.Seq.{take-at}
 use Rattle.laws.specs.TruthLaws.{both-true, picked}
 use Rattle.laws.specs.Text.{byte}
 use Rattle.laws.specs.Search.{everyLine}
@@ -29,7 +28,7 @@ use Rattle.rules.specs.RuleLaws.{holding-is, pair-is, counts-are, sound-is, hol
 use Rattle.digits.specs.Digits.{fixed, numerals}
 use Rattle.digits.specs.FigureLaws.{length-fixed, numerals-few}
 use Rattle.put.specs.Put.{endOf}
-use Rattle.put.specs.PutLaws.{Put, put-then, put-none, laid-start, length-laid}
+use Rattle.put.specs.PutLaws.{Put, put-then, laid-start, length-laid}
 use Rattle.lines.specs.Parts.{tab, lf}
 use Rattle.lines.specs.Texts.{tabbed, lineText, lettersOf, seriesFields}
 use Rattle.printed.specs.Printed.{headText, holdingText, pairText, textsOf, textOf, printChecks, printAnswer, printExit}
@@ -52,57 +51,16 @@ pub line-laid : {d e f g : List ℕ} {letter at r u w : ℕ} (fs : List (List �
 unfolding lineText
 line-laid fs a b c = put-then a (put-then b c)
 
--- The letters of a code.
-module _ {d e : List ℕ} {at r : ℕ} (code : List ℕ) where
-  pub two-letters : getD code 2 0 ≡ 0 → Put d at (take 2 code) e r → Put d at (lettersOf code) e r
-  unfolding lettersOf
-  two-letters h p = simp (eq-eqb _ _ h) p
-
-  pub three-letters : (getD code 2 0 ≡ 0 → ⊥) → Put d at code e r → Put d at (lettersOf code) e r
-  unfolding lettersOf
-  three-letters h p = simp (ne-eqb _ _ h) p
-
--- Rows: the first i of n rows are laid over d from at on, e is the buffer and r the place behind them.
-pub record Rows {A : Type 0} (text : A → List ℕ) (rows : List A) (n : ℕ) (d : List ℕ) (at : ℕ) (e : List ℕ) (r i : ℕ) : Type 0 where
-  pub low : i ≤ n
-  pub same : length e ≡ length d
-  pub done : Put d at (textsOf text (take i rows)) e r
-
+-- The text of a row more.
 pub texts-last : {A : Type 0} (text : A → List ℕ) (l : List A) (x : A) → textsOf text (l ++ (x ∷ [])) ≡ textsOf text l ++ text x
 unfolding textsOf
 texts-last text [] x = append-nil (text x)
 texts-last text (y ∷ l) x = rw (texts-last text l x) (sym (append-assoc (text y) (textsOf text l) (text x)))
 
-pub rows-start : {A : Type 0} (text : A → List ℕ) (rows : List A) (n : ℕ) (d : List ℕ) (at : ℕ) → at ≤ length d → Rows text rows n d at d at 0
-unfolding textsOf
-rows-start text rows n d at h = record { low = omega arith; same = refl; done = put-none d at h }
-
-module _ {A : Type 0} {text : A → List ℕ} {rows : List A} {n : ℕ} {d : List ℕ} {at : ℕ} {e : List ℕ} {r i : ℕ} (g : Rows text rows n d at e r i) where
-  pub rows-on : {f : List ℕ} {u : ℕ} (x : A) → i < n → i < length rows → Put e r (text (getD rows i x)) f u → Rows text rows n d at f u (i + 1)
-  rows-on x h k p =
-      record {
-        low = omega arith;
-        same = ap length (p .holds) ∙ length-laid e r (text (getD rows i x)) ∙ g .same;
-        done = rw (add-one i, take-suc rows i x k, texts-last text (take i rows) (getD rows i x)) (put-then (g .done) p);
-      }
-
-  pub rows-out : n ≤ i → Put d at (textsOf text (take n rows)) e r
-  rows-out h = let z : i ≡ n = omega (arith, g .low) in rw z at (g .done)
-
--- The place behind a text is in the buffer.
-pub end-in : {d p e : List ℕ} {at r : ℕ} → Put d at p e r → r ≤ length e
-unfolding endOf
-end-in {d} {p} {e} {at} {r} a = omega (arith, a .ends, ap length (a .holds), length-laid d at p)
-
 -- The text of a book is its head, its holdings and its pairs.
 pub book-laid : {d e f g : List ℕ} {at r u w : ℕ} (b : Book) → Put d at (headText (b .account) (b .identity) (b .day)) e r → Put e r (textsOf holdingText (take (b .held) (b .holdings))) f u → Put f u (textsOf pairText (take (b .paired) (b .pairs))) g w → Put d at (textOf b) g w
 unfolding textOf holdingsOf pairsOf
 book-laid b h k l = put-then h (put-then k l)
-
--- The fields of a series, its letter and its strike as they were asked for.
-pub series-laid : {d e f g h : List ℕ} {at r u w v letter strike : ℕ} (s : Series) → letter ≡ letterOf (s .nature) → strike ≡ strikeOf (s .nature) → Put d at (tabbed (lettersOf (s .code) ∷ [])) e r → Put e r (tabbed (fixed 8 (s .date) ∷ [])) f u → Put f u (tabbed ((letter ∷ []) ∷ [])) g w → Put g w (tabbed (numerals strike ∷ [])) h v → Put d at (tabbed (seriesFields s)) h v
-unfolding seriesFields
-series-laid s l k a b c p = fields-then _ _ a (fields-then _ _ b (fields-then _ _ (rw l at c) (rw k at p)))
 
 -- How long fields, lines and rows can be.
 
@@ -140,7 +98,7 @@ series-fits s e =
     (field-fits {m = 1} (letterOf (s .nature) ∷ []) _ (omega arith)
     (last-fits (numerals (strikeOf (s .nature))) (numerals-few 10 (strikeOf (s .nature)) (omega arith) (omega (arith, f .strike))))))
 
-head-fits : (account identity day : ℕ) → length (headText account identity day) ≤ 21
+pub head-fits : (account identity day : ℕ) → length (headText account identity day) ≤ 21
 unfolding headText
 head-fits account identity day =
     line-fits (byte "A") _
@@ -148,7 +106,7 @@ head-fits account identity day =
     (field-fits {m = 1} (identity ∷ []) _ (omega arith)
     (last-fits (fixed 8 day) (fixed-few 8 day))))
 
-holding-fits : (h : Holding) → goodHolding h ≡ true → length (holdingText h) ≤ 42
+pub holding-fits : (h : Holding) → goodHolding h ≡ true → length (holdingText h) ≤ 42
 unfolding holdingText
 holding-fits h e =
     let g = holding-is h e in
@@ -157,7 +115,7 @@ holding-fits h e =
     (field-fits (numerals (h .long)) _ (numerals-few 6 (h .long) (omega arith) (omega (arith, g .long-fits)))
     (last-fits (numerals (h .short)) (numerals-few 6 (h .short) (omega arith) (omega (arith, g .short-fits))))))
 
-pair-fits : (p : Pair) → goodPair p ≡ true → length (pairText p) ≤ 71
+pub pair-fits : (p : Pair) → goodPair p ≡ true → length (pairText p) ≤ 71
 unfolding pairText
 pair-fits p e =
     let g = pair-is p e in
@@ -225,3 +183,12 @@ module _ {b : Book} {d : List ℕ} {n : ℕ} (c : Composed b d n) (out : List �
   whole-answer h p =
       let t : leb (length (textOf b)) (length out) ≡ true = le-leb (length (textOf b)) (length out) (omega (arith, c .ends)) in
       (simp (c .sound, t, c .ends), simp (c .sound, t) (p .holds ∙ rw (c .stands) (laid-start out (textOf b) (omega (arith, c .ends)))))
+
+-- A buffer that holds any book's text.
+pub straight-answer : {out e : List ℕ} {n : ℕ} (b : Book) → soundBook b ≡ true → 16384 ≤ length out → Put out 0 (textOf b) e n → (record { number = 0; length = n } ≡ printAnswer b out) × (e ≡ printExit b out)
+unfolding printAnswer printExit printChecks firstFailing allPass endOf
+straight-answer {out} {e} {n} b s room p =
+    let h : length (textOf b) ≤ length out = omega (arith, text-fits b s) in
+    let is : n ≡ length (textOf b) = omega (arith, p .ends) in
+    let t : leb (length (textOf b)) (length out) ≡ true = le-leb (length (textOf b)) (length out) h in
+    (simp (s, t, is), simp (s, t) (p .holds ∙ laid-start out (textOf b) h))

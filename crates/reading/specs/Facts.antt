@@ -26,6 +26,7 @@ use Rattle.rules.specs.Rules.{isIdentity, countsFit}
 use Rattle.halving.specs.Halving.{findIn}
 use Rattle.sound.specs.Walk.{halves}
 use Rattle.lines.specs.declared.Kind.{Kind}
+use Rattle.lines.specs.declared.Kind.the-variants.{Nothing}
 use Rattle.lines.specs.declared.Cell.{Cell}
 use Rattle.reading.specs.Reading.{headForm, holdingForm, pairForm, cell, holdingIn, pairIn}
 
@@ -35,6 +36,13 @@ letterIn f = pick (sameBytes f (bytes "A")) (byte "A") (pick (sameBytes f (bytes
 
 unfoldable pub formFor : ℕ → List Kind
 formFor letter = pick (eqb letter (byte "A")) headForm (pick (eqb letter (byte "H")) holdingForm (pick (eqb letter (byte "M")) pairForm []))
+
+-- the kinds of all forms, one form behind the other, with Nothing between and behind them; and where those of a letter begin
+unfoldable pub kindTable : List Kind
+kindTable = headForm ++ (Nothing ∷ (holdingForm ++ (Nothing ∷ (pairForm ++ (Nothing ∷ [])))))
+
+unfoldable pub placeFor : ℕ → ℕ
+placeFor letter = pick (eqb letter (byte "A")) 0 (pick (eqb letter (byte "H")) 4 (pick (eqb letter (byte "M")) 11 23))
 
 unfoldable pub fieldsFor : ℕ → ℕ
 fieldsFor letter = pick (eqb letter (byte "A")) 3 (pick (eqb letter (byte "H")) 6 (pick (eqb letter (byte "M")) 12 13))

@@ -1,10 +1,11 @@
 -- Laws of the loop over lines: where a line begins, how it is refused, and what the next one finds.
 use mathlib.Core.Path.{_≡_, refl, ap, sym, _∙_, subst}
+use mathlib.Core.Logic.{⊎-elim}
 use mathlib.Core.Bool.{Bool, true, false, not}
 use mathlib.Core.List.{List}
 use Prim.Native.Nat.{ℕ, suc, _+_, _-_, _*_, _<_, _≤_}
 use native.Mathlib.Omega.{arith}
-use native.Mathlib.Numerals.{add-one}
+use native.Mathlib.Decide.{decLt}
 use borrow.Author.Tests.{lt-leb, le-leb, eq-eqb, ne-eqb, eqb-true, eqb-false, ltb-true, not-true, not-false}
 use lib.Dec.{ltb, eqb}
 use lib.ListN.{getD, length, take, drop, set, drop-of-length-le, length-drop}
@@ -28,21 +29,22 @@ use Rattle.rules.specs.Facts.{Sound, Counts}
 use Rattle.rules.specs.Rules.{countsFit}
 use Rattle.rules.specs.RuleLaws.{counts-are, holdings-count, pairs-count}
 use Rattle.calls.specs.CallLaws.{no-book-sound}
-use Rattle.lines.specs.declared.Kind.{Kind}
 use Rattle.lines.specs.declared.Kind.the-variants.{Nothing}
 use Rattle.lines.specs.declared.Cell.{Cell}
-use Rattle.lines.specs.Parts.{tab, lf, more, splitOn, nextOf}
-use Rattle.lines.specs.Fields.{cellOf}
-use Rattle.lines.specs.CutLaws.{next-low, next-high, part-more, part-last}
-use Rattle.lines.specs.LoopLaws.{InFields, row-bad, cell-room, fields-on}
+use Rattle.lines.specs.declared.Field.{Field}
+use Rattle.lines.specs.Parts.{tab, lf, more, splitOn, nextOf, stopOf}
+use Rattle.lines.specs.Fields.{fieldAt}
+use Rattle.lines.specs.CutLaws.{next-low, part-more, part-last}
+use Rattle.lines.specs.StopLaws.{stop-high, stop-within, lineAt}
+use Rattle.lines.specs.LoopLaws.{InLine, line-begins, stop-less, line-bad, line-room, line-on, line-end, line-done}
 use Rattle.reading.specs.declared.Answer.{Answer}
 use Rattle.reading.specs.Reading.{Line, holding, pair, formless, headIn, holdingIn, pairIn, lineOf, lineChecks, withLine, refusedAt, accepted, readLines, readText}
-use Rattle.reading.specs.Facts.{letterIn, formFor, fieldsFor, pairChecksButLots, numberOfPair, numberFor, headBook, legsFound, legsTaken}
+use Rattle.reading.specs.Facts.{letterIn, formFor, kindTable, placeFor, fieldsFor, pairChecksButLots, numberOfPair, numberFor, headBook, legsFound, legsTaken}
 use Rattle.reading.specs.Next.{NextHolding, accountOf}
 use Rattle.reading.specs.PassLaws.{line-numbered, head-passes, holding-passes, pair-passes}
 use Rattle.reading.specs.FormLaws.{line-account}
 use Rattle.reading.specs.KeepLaws.{line-keeps}
-use Rattle.reading.specs.TurnLaws.{saidBy, by-letters, form-few, line-formless, line-wrong, line-right, letter-known}
+use Rattle.reading.specs.TurnLaws.{saidBy, by-letters, form-few, form-at, line-formless, line-wrong, line-right, letter-known}
 use Rattle.reading.specs.NumberLaws.{but-lots-numbered}
 use Rattle.reading.specs.StateLaws.{Along, along-empty, head-number, holding-number, pair-number, head-book-is, holding-book-is, holding-along, pair-book-is, pair-along, legs-are-free}
 
@@ -63,7 +65,15 @@ lines-start t highs lows free before is h l f =
     subst (λ (b : Book). AtLine t b highs lows free before 0 0) (sym is)
     (record { along = along-empty noBook highs lows free before no-book-sound refl refl h l f; low = omega arith; few = omega arith; goes = refl })
 
--- The loop is in a line, of which the row is all but its LF.
+-- The loop is in a line, which begins at `at`.
+pub record InText (t : List ℕ) (b : Book) (highs lows free : List ℕ) (before : List Cell) (line at : ℕ) : Type 0 where
+  pub along : Along b highs lows free before
+  pub low : at < length t
+  pub some : 1 ≤ line
+  pub few : line ≤ at + 1
+  pub goes : readLines (line - 1) b (splitOn lf (drop at t)) ≡ answerOf t
+
+-- It is at the end of a line, of which the row is all but its LF.
 pub record AtRow (t : List ℕ) (b : Book) (highs lows free : List ℕ) (before : List Cell) (line at end : ℕ) (row : List ℕ) : Type 0 where
   pub along : Along b highs lows free before
   pub begins : at ≤ end
@@ -78,23 +88,32 @@ module _ {t : List ℕ} {b : Book} {highs lows free : List ℕ} {before : List C
   unfolding readLines splitOn
   lines-end e = let le : length t ≤ at = omega arith in rw (drop-of-length-le t le) at (a .goes)
 
-  module _ (some : at ≡ length t → ⊥) {end : ℕ} (is : end ≡ nextOf t at lf) where
-    -- Its last line has no LF.
-    pub line-unended : end ≡ length t → refusedAt 1 (line + 1) ≡ answerOf t
-    unfolding readLines
-    line-unended e =
-        let low = a .low in
-        let l = length-drop at t in
-        rw (add-one line) (rw (part-last t at lf is low (omega arith), ne-eqb (length (drop at t)) 0 (λ z. omega arith)) at (a .goes))
+  -- Another line begins.
+  line-opens : (at ≡ length t → ⊥) → InText t b highs lows free before (line + 1) at
+  line-opens some =
+      let low = a .low in
+      let few = a .few in
+      let own : line + 1 - 1 ≡ line = omega arith in
+      record { along = a .along; low = omega arith; some = omega arith; few = omega arith; goes = rw own (a .goes) }
 
-    pub row-begins : (end ≡ length t → ⊥) → AtRow t b highs lows free before (line + 1) at end (take (end - at) (drop at t))
-    row-begins n =
-        let low = a .low in
-        let high = next-high t at lf low in
-        let first = next-low t at lf in
-        let few = a .few in
-        let own : line + 1 - 1 ≡ line = omega arith in
-        record { along = a .along; begins = omega arith; low = omega arith; some = omega arith; few = omega arith; goes = rw (own, sym (part-more t at lf is low (omega arith))) (a .goes) }
+module _ {t : List ℕ} {b : Book} {highs lows free : List ℕ} {before : List Cell} {line at : ℕ} (a : InText t b highs lows free before line at) where
+  -- It has no LF.
+  line-unended : length t ≤ nextOf t at lf → refusedAt 1 line ≡ answerOf t
+  unfolding readLines
+  line-unended e =
+      let low = a .low in
+      let some = a .some in
+      let l = length-drop at t in
+      let n : suc (line - 1) ≡ line = omega arith in
+      rw (part-last t at lf refl (omega arith) e, ne-eqb (length (drop at t)) 0 (λ z. omega arith), n) at (a .goes)
+
+  row-ends : {end : ℕ} → end ≡ nextOf t at lf → end < length t → AtRow t b highs lows free before line at end (lineAt t at)
+  unfolding lineAt
+  row-ends {end} is lt =
+      let low = a .low in
+      let first = next-low t at lf in
+      let few = a .few in
+      record { along = a .along; begins = omega arith; low = lt; some = a .some; few = omega arith; goes = rw (sym is, sym (part-more t at lf is (omega arith) lt)) (a .goes) }
 
 -- What is known of an M line that passes all its checks but the last.
 pub record FirstPasses (p : Pair) (paired : ℕ) : Type 0 where
@@ -133,12 +152,9 @@ first-is line some =
     refl
 
 module _ {t : List ℕ} {b : Book} {highs lows free : List ℕ} {before : List Cell} {line at end : ℕ} {row : List ℕ} (a : AtRow t b highs lows free before line at end row) where
-  -- Each line leaves less of the text, and each field less of its row.
+  -- Each line leaves less of the text.
   pub line-less : length t - (end + 1) < length t - at
   line-less = let begins = a .begins in let low = a .low in omega arith
-
-  pub line-fits : end + 1 ≤ length t
-  line-fits = let low = a .low in omega arith
 
   -- A row whose checks fail.
   row-refused : {number : ℕ} (x : Line) → lineOf row ≡ x → firstFailing (lineChecks (eqb (line - 1) 0) b x) ≡ number → (number ≡ 0 → ⊥) → refusedAt number line ≡ answerOf t
@@ -149,7 +165,7 @@ module _ {t : List ℕ} {b : Book} {highs lows free : List ℕ} {before : List C
       let n : suc (line - 1) ≡ line = omega arith in
       rw (says, fails, e, n) at (a .goes)
 
-  pub row-formless : lineOf row ≡ formless → refusedAt 1 line ≡ answerOf t
+  row-formless : lineOf row ≡ formless → refusedAt 1 line ≡ answerOf t
   unfolding lineChecks firstFailing
   row-formless says = row-refused formless says refl (λ z. omega arith)
 
@@ -288,37 +304,68 @@ module _ {t : List ℕ} {b : Book} {highs lows free : List ℕ} {before : List C
             rw (legs .1, is, found)
             (next-line (says-pair is-pair) all (pair-book-is along cells next) (pair-along along cells next (keeps (says-pair is-pair) all)))
 
--- The loop is among the fields of a line's row.
-pub record InRow (t : List ℕ) (b : Book) (highs lows free : List ℕ) (before : List Cell) (line at end : ℕ) (row : List ℕ) (first letter : ℕ) (cells : List Cell) (k stop : ℕ) : Type 0 where
-  pub at-row : AtRow t b highs lows free before line at end row
-  pub fields : InFields letterIn formFor 12 row first letter cells k stop
+-- A line that has not the form.
+line-formless-at : {t : List ℕ} {b : Book} {highs lows free : List ℕ} {before : List Cell} {line at : ℕ} → InText t b highs lows free before line at → lineOf (lineAt t at) ≡ formless → refusedAt 1 line ≡ answerOf t
+line-formless-at {t} {line = line} {at = at} a says = go (decLt (nextOf t at lf) (length t))
+  where
+    go : Dec (nextOf t at lf < length t) → refusedAt 1 line ≡ answerOf t
+    go (yes q) = row-formless (row-ends a refl q) says
+    go (no q) = line-unended a (omega arith)
 
-module _ {t : List ℕ} {b : Book} {highs lows free : List ℕ} {before : List Cell} {line at end : ℕ} {row : List ℕ} {first letter : ℕ} {cells : List Cell} {k stop : ℕ} (a : InRow t b highs lows free before line at end row first letter cells k stop) where
-  module _ (lt : stop < length row) {next : ℕ} (is : next ≡ nextOf row (stop + 1) tab) {kind : Kind} {c : Cell} (kind-is : kind ≡ getD (formFor letter) k Nothing) (cell-is : c ≡ cellOf kind (take (next - (stop + 1)) (drop (stop + 1) row))) where
-    -- A field without its form.
-    pub field-refused : not (c .right) ≡ true → refusedAt 1 line ≡ answerOf t
-    field-refused e = row-formless (a .at-row) (line-formless (a .fields) (row-bad (a .fields) lt is kind-is cell-is e))
+-- The loop is among the fields of a line.
+pub record InRow (t : List ℕ) (b : Book) (highs lows free : List ℕ) (before : List Cell) (line at first letter : ℕ) (cells : List Cell) (k stop : ℕ) : Type 0 where
+  pub in-text : InText t b highs lows free before line at
+  pub in-line : InLine letterIn formFor 12 t at first letter cells k stop
 
-    module _ (e : not (c .right) ≡ false) where
-      pub cell-fits : k < 12
-      cell-fits = cell-room (a .fields) lt is kind-is cell-is (form-few letter) e
+module _ {t : List ℕ} {b : Book} {highs lows free : List ℕ} {before : List Cell} {line at : ℕ} (a : AtLine t b highs lows free before line at) (some : at ≡ length t → ⊥) {stop : ℕ} (is : stop ≡ stopOf t at) where
+  -- The text ends with the letter.
+  pub letter-unended : stop ≡ length t → refusedAt 1 (line + 1) ≡ answerOf t
+  letter-unended e = line-unended (line-opens a some) (let w = stop-within t at (omega arith) (next-low t at lf) in omega arith)
 
-      pub in-row-on : InRow t b highs lows free before line at end row first letter (set cells k c) (k + 1) next
-      in-row-on = record { at-row = a .at-row; fields = fields-on (a .fields) lt is kind-is cell-is (form-few letter) e }
+  pub letter-high : stop ≤ length t
+  letter-high = let h = stop-high t at (a .low) in omega arith
+
+  pub row-begins : (stop ≡ length t → ⊥) → {letter : ℕ} (cells : List Cell) → letter ≡ letterIn (take (stop - at) (drop at t)) → length cells ≡ 12 → InRow t b highs lows free before (line + 1) at stop letter cells 0 stop
+  row-begins n cells l long = let h = letter-high in record { in-text = line-opens a some; in-line = line-begins t at cells is (omega arith) l long }
+
+module _ {t : List ℕ} {b : Book} {highs lows free : List ℕ} {before : List Cell} {line at first letter : ℕ} {cells : List Cell} {k stop : ℕ} (a : InRow t b highs lows free before line at first letter cells k stop) where
+  -- The kind of the next field.
+  module _ {place : ℕ} (place-is : place ≡ placeFor letter) where
+    kind-at : (place + k < 24) × (getD kindTable (place + k) Nothing ≡ getD (formFor letter) k Nothing)
+    kind-at = rw place-is (form-at letter k (a .in-line .fields .fields .few))
+
+    pub kind-fits : place + k < 24
+    kind-fits = kind-at .0
+
+    module _ (is-tab : getD t stop 0 ≡ tab) {f : Field} (is : f ≡ fieldAt (getD kindTable (place + k) Nothing) t (stop + 1)) where
+      -- A field without its form.
+      pub field-refused : not (f .cell .right) ≡ true → refusedAt 1 line ≡ answerOf t
+      field-refused e =
+          ⊎-elim (line-unended (a .in-text)) (λ bad. line-formless-at (a .in-text) (line-formless (a .in-line .fields) bad)) (line-bad (a .in-line) is-tab (kind-at .1) is e)
+
+      module _ (e : not (f .cell .right) ≡ false) where
+        pub cell-fits : k < 12
+        cell-fits = line-room (a .in-line) is-tab (kind-at .1) is (form-few letter) e
+
+        pub field-less : length t - f .stop < length t - stop
+        field-less = stop-less (a .in-line) is-tab (kind-at .1) is e
+
+        pub in-row-on : InRow t b highs lows free before line at first letter (set cells k (f .cell)) (k + 1) (f .stop)
+        in-row-on = record { in-text = a .in-text; in-line = line-on (a .in-line) is-tab (kind-at .1) is (form-few letter) e }
 
   -- Behind the last field.
-  module _ (done : length row ≤ stop) {fields : ℕ} (fields-is : fields ≡ fieldsFor letter) where
+  module _ (no-tab : getD t stop 0 ≡ tab → ⊥) {fields : ℕ} (fields-is : fields ≡ fieldsFor letter) where
     pub fields-refused : (k ≡ fields → ⊥) → refusedAt 1 line ≡ answerOf t
-    fields-refused n = row-formless (a .at-row) (line-wrong (a .fields) done (λ e. n (e ∙ sym fields-is)))
+    fields-refused n = line-formless-at (a .in-text) (line-wrong (a .in-line .fields) (line-done (a .in-line) no-tab) (λ e. n (e ∙ sym fields-is)))
 
     -- The line has the form.
-    pub row-said : {number : ℕ} → k ≡ fields → number ≡ numberFor letter cells before (eqb line 1) (b .held) (b .paired) → SaidRow t b highs lows free before line at end letter cells number
+    pub row-said : {number : ℕ} → k ≡ fields → number ≡ numberFor letter cells before (eqb line 1) (b .held) (b .paired) → SaidRow t b highs lows free before line at stop letter cells number
     row-said e is =
         record {
-          row = row;
-          at-row = a .at-row;
-          says = line-right (a .fields) done (e ∙ fields-is);
-          known-letter = letter-known (a .fields) done (e ∙ fields-is);
+          row = lineAt t at;
+          at-row = row-ends (a .in-text) (line-end (a .in-line) no-tab) (a .in-line .inside);
+          says = line-right (a .in-line .fields) (line-done (a .in-line) no-tab) (e ∙ fields-is);
+          known-letter = letter-known (a .in-line .fields) (line-done (a .in-line) no-tab) (e ∙ fields-is);
           number-is = is;
         }
 

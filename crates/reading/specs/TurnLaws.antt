@@ -2,23 +2,24 @@
 use mathlib.Core.Path.{_≡_, refl, ap, sym, _∙_, subst}
 use mathlib.Core.Bool.{Bool, true, false}
 use mathlib.Core.List.{List, []}
-use Prim.Native.Nat.{ℕ, _-_, _≤_}
+use Prim.Native.Nat.{ℕ, _+_, _-_, _<_, _≤_}
 use native.Mathlib.Omega.{arith}
 use borrow.Author.Tests.{ne-eqb, eqb-true, eqb-false}
 use lib.Dec.{eqb}
-use lib.ListN.{length, take, drop}
+use lib.ListN.{getD, length, take, drop}
 use lib.Seq.{getD-take, take-all}
 use Rattle.laws.specs.Truth.{pick, both}
 use Rattle.laws.specs.TruthLaws.{by-test}
 use Rattle.laws.specs.Bytes.{sameBytes}
 use Rattle.laws.specs.ByteLaws.{are-same}
 use Rattle.laws.specs.Text.{byte, bytes}
+use Rattle.lines.specs.declared.Kind.the-variants.{Nothing}
 use Rattle.lines.specs.declared.Cell.{Cell}
 use Rattle.lines.specs.Fields.{hasForm, cellsOf}
 use Rattle.lines.specs.CutLaws.{fieldsBehind}
-use Rattle.lines.specs.LoopLaws.{InFields, row-fields, row-wrong, row-done}
+use Rattle.lines.specs.LoopLaws.{InFields, row-fields, row-wrong, row-done, in-table}
 use Rattle.reading.specs.Reading.{Line, holding, pair, formless, headForm, holdingForm, pairForm, headIn, holdingIn, pairIn, lineIn, lineFrom, lineOf}
-use Rattle.reading.specs.Facts.{letterIn, formFor, fieldsFor}
+use Rattle.reading.specs.Facts.{letterIn, formFor, kindTable, placeFor, fieldsFor}
 
 -- What a line of a letter says by its cells, if it has the form.
 unfoldable pub saidBy : ℕ → List Cell → Line
@@ -82,6 +83,16 @@ module _ (letter : ℕ) (P : Type 0) where
       refl)
       refl)
       refl
+
+-- In the table the kinds of a letter's form stand from its place on, and Nothing behind them.
+pub form-at : (letter k : ℕ) → k ≤ length (formFor letter) → (placeFor letter + k < 24) × (getD kindTable (placeFor letter + k) Nothing ≡ getD (formFor letter) k Nothing)
+unfolding formFor placeFor kindTable headForm holdingForm pairForm
+form-at letter k h =
+    by-letters letter ((placeFor letter + k < 24) × (getD kindTable (placeFor letter + k) Nothing ≡ getD (formFor letter) k Nothing))
+    (λ l. let few : k ≤ length headForm = rw l at h in rw l (omega arith, in-table kindTable headForm _ 0 refl k few))
+    (λ l. let few : k ≤ length holdingForm = rw l at h in rw l (omega arith, in-table kindTable holdingForm _ 4 refl k few))
+    (λ l. let few : k ≤ length pairForm = rw l at h in rw l (omega arith, in-table kindTable pairForm _ 11 refl k few))
+    (λ x y z. let few : k ≤ 0 = rw (ne-eqb letter 65 x, ne-eqb letter 72 y, ne-eqb letter 77 z) at h in rw (ne-eqb letter 65 x, ne-eqb letter 72 y, ne-eqb letter 77 z) (omega arith, in-table kindTable [] _ 23 refl k few))
 
 -- A head and a holding look no further than their fields.
 head-taken : (cs : List Cell) → headIn (take 3 cs) ≡ headIn cs

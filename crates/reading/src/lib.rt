@@ -7,12 +7,13 @@ ghost use Rattle.laws.specs.Truth.{both};
 ghost use Rattle.series.specs.Key.{highKey, natureKey};
 ghost use Rattle.rows.specs.Book.{noBook};
 ghost use Rattle.rules.specs.Facts.{Counts};
-ghost use Rattle.lines.specs.declared.Kind.the-variants.{Nothing};
 ghost use Rattle.lines.specs.Parts.{lf, splitOn};
-ghost use Rattle.reading.specs.Reading.{headForm, holdingForm, pairForm, holdingIn, pairIn, refusedAt, accepted, readLines, readText};
-ghost use Rattle.reading.specs.Facts.{letterIn, formFor, fieldsFor, worse, numberOfHead, numberOfHolding, numberOfPair, numberFor, headBook, slot, slotAt, legsFound, legsTaken};
+ghost use Rattle.lines.specs.Fields.{fieldAt};
+ghost use Rattle.reading.specs.Reading.{holdingIn, pairIn, refusedAt, accepted, readLines, readText};
+ghost use Rattle.reading.specs.Facts.{letterIn, placeFor, fieldsFor, worse, numberOfHead, numberOfHolding, numberOfPair, numberFor, headBook, slot, slotAt, legsFound, legsTaken};
 use laws::Order;
 use lines::Cell;
+use lines::Field;
 use lines::Kind;
 use rows::Book;
 use rows::Holding;
@@ -63,68 +64,57 @@ fn letter_of(t: &[u8]) -> u8
     0
 }
 
-const HEAD: [Kind; 3] = [Kind::Account, Kind::Mark, Kind::Date];
-
-const HOLDING: [Kind; 6] = [
+// The kinds of the fields of the forms A, H and M, one form behind the other; Nothing stands between and behind them.
+const KINDS: [Kind; 24] = [
+    Kind::Account,
+    Kind::Mark,
+    Kind::Date,
+    Kind::Nothing,
     Kind::Code,
     Kind::Date,
     Kind::Mark,
     Kind::Number,
     Kind::Number,
     Kind::Number,
+    Kind::Nothing,
+    Kind::Number,
+    Kind::Code,
+    Kind::Date,
+    Kind::Mark,
+    Kind::Number,
+    Kind::Code,
+    Kind::Date,
+    Kind::Mark,
+    Kind::Number,
+    Kind::Number,
+    Kind::Number,
+    Kind::Number,
+    Kind::Nothing,
 ];
 
-const PAIR: [Kind; 12] = [
-    Kind::Number,
-    Kind::Code,
-    Kind::Date,
-    Kind::Mark,
-    Kind::Number,
-    Kind::Code,
-    Kind::Date,
-    Kind::Mark,
-    Kind::Number,
-    Kind::Number,
-    Kind::Number,
-    Kind::Number,
-];
-
-fn head_kind(k: usize) -> Kind
-    ensures { λ r. ⌜ r ≡ getD headForm k Nothing ⌝ }
+// The field of a kind that begins at `from`.
+fn field_at(kind: Kind, t: &[u8], from: usize) -> Field
+    ensures { λ r. ⌜ r ≡ fieldAt kind (now (t .entry)) from ⌝ }
 {
-    if 3 <= k {
-        return Kind::Nothing;
+    match kind {
+        Kind::Nothing => lines::no_field(),
+        Kind::Number => lines::number_at(t, from),
+        Kind::Account => lines::account_at(t, from),
+        Kind::Date => lines::date_at(t, from),
+        Kind::Code => lines::code_at(t, from),
+        Kind::Mark => lines::mark_at(t, from),
     }
-    HEAD[k]
 }
 
-fn holding_kind(k: usize) -> Kind
-    ensures { λ r. ⌜ r ≡ getD holdingForm k Nothing ⌝ }
-{
-    if 6 <= k {
-        return Kind::Nothing;
-    }
-    HOLDING[k]
-}
-
-fn pair_kind(k: usize) -> Kind
-    ensures { λ r. ⌜ r ≡ getD pairForm k Nothing ⌝ }
-{
-    if 12 <= k {
-        return Kind::Nothing;
-    }
-    PAIR[k]
-}
-
-// What the form of the letter's line asks of the field k behind the letter.
-fn kind_at(letter: u8, k: usize) -> Kind
-    ensures { λ r. ⌜ r ≡ getD (formFor letter) k Nothing ⌝ }
+// Where the kinds of the form of the letter's line begin.
+fn form_of(letter: u8) -> usize
+    ensures { λ r. ⌜ r ≡ placeFor letter ⌝ }
 {
     match letter {
-        b'A' => head_kind(k),
-        b'H' => holding_kind(k),
-        b'M' => pair_kind(k),
-        _ => Kind::Nothing,
+        b'A' => 0,
+        b'H' => 4,
+        b'M' => 11,
+        _ => 23,
     }
 }
 
@@ -363,11 +353,13 @@ fn read_lines(t: &[u8]) -> Answer
     ensures { λ r. ⌜ r ≡ readLines 0 noBook (splitOn lf (now (t .entry))) ⌝ }
 {
     let none = lines::no_cell();
+    let kinds = KINDS;
     let mut book = rows::empty_book(0, b'0', 20000101);
     let mut highs = [0u64; 128];
     let mut lows = [0u64; 128];
     let mut free = [0u32; 256];
     let mut before = [none; 12];
+    let mut cells = [none; 12];
     let mut line: u32 = 0;
     let mut at: usize = 0;
     'lines: loop {
@@ -375,24 +367,23 @@ fn read_lines(t: &[u8]) -> Answer
             break 'lines accept(book);
         }
         line += 1;
-        let end = lines::next(t, at, b'\n');
-        if end == t.len() {
+        let mut stop = lines::stop_of(t, at);
+        if stop == t.len() {
             break 'lines refused(1, line);
         }
-        let row = &t[at..end];
-        let mut stop = lines::next(row, 0, b'\t');
-        let letter = letter_of(&row[0..stop]);
-        let mut cells = [none; 12];
+        let letter = letter_of(&t[at..stop]);
+        let form = form_of(letter);
         let mut k: usize = 0;
-        'fields: while stop < row.len() {
-            let from = stop + 1;
-            stop = lines::next(row, from, b'\t');
-            let cell = lines::cell_of(kind_at(letter, k), &row[from..stop]);
+        'fields: while t[stop] == b'\t' {
+            let kind = kinds[form + k];
+            let field = field_at(kind, t, stop + 1);
+            let cell = field.cell;
             if !cell.right {
                 break 'lines refused(1, line);
             }
             cells[k] = cell;
             k += 1;
+            stop = field.stop;
         }
         if k != fields_of(letter) {
             break 'lines refused(1, line);
@@ -403,7 +394,7 @@ fn read_lines(t: &[u8]) -> Answer
         if number != 0 {
             break 'lines refused(number, line);
         }
-        at = end + 1;
+        at = stop + 1;
         before = cells;
         if letter == b'A' {
             book = head_book(cells);

@@ -11,7 +11,7 @@ use Rattle.laws.specs.Bytes.{sameBytes}
 use Rattle.laws.specs.ByteLaws.{are-same}
 use Rattle.laws.specs.Search.{everyLine}
 use Rattle.laws.specs.Order.{orderOf, thenBy, bytesOrder, isSame}
-use Rattle.laws.specs.OrderLaws.{then-same, same-in-order}
+use Rattle.laws.specs.OrderLaws.{is-same, split, then-same, same-in-order}
 use Rattle.laws.specs.declared.Order.{Order}
 use Rattle.series.specs.declared.Series.{Series}
 use Rattle.series.specs.declared.Nature.{Nature}
@@ -33,10 +33,21 @@ pub same-by-order : (a b : Series) {o : Order} → o ≡ seriesOrder a b → isS
 unfolding sameSeries
 same-by-order a b e = ap isSame (e ∙ sym (rank-order a b)) ∙ same-in-order (seriesRank a) (seriesRank b)
 
--- The order of pairs is by kind, first series, second series, r1, r2.
-pub pair-order : (p q : Pair) → bytesOrder (pairRank p) (pairRank q) ≡ thenBy (orderOf (p .kind) (q .kind)) (thenBy (seriesOrder (p .first) (q .first)) (thenBy (seriesOrder (p .second) (q .second)) (thenBy (orderOf (p .r1) (q .r1)) (orderOf (p .r2) (q .r2)))))
-unfolding pairRank bytesOrder seriesOrder
+-- The order of pairs is by kind, first series, second series, r1, r2; and the order where kind and first series are the same.
+unfoldable pub restOrder : Pair → Pair → Order
+restOrder p q = thenBy (seriesOrder (p .second) (q .second)) (thenBy (orderOf (p .r1) (q .r1)) (orderOf (p .r2) (q .r2)))
+
+pub pair-order : (p q : Pair) → bytesOrder (pairRank p) (pairRank q) ≡ thenBy (orderOf (p .kind) (q .kind)) (thenBy (seriesOrder (p .first) (q .first)) (restOrder p q))
+unfolding pairRank bytesOrder seriesOrder restOrder
 pair-order p q = simp then-same
+
+module _ (p q : Pair) {o : Order} where
+  pub kinds-differ : (p .kind ≡ q .kind → ⊥) → o ≡ orderOf (p .kind) (q .kind) → o ≡ bytesOrder (pairRank p) (pairRank q)
+  kinds-differ n e =
+      e ∙ sym (pair-order p q ∙ split (λ (x : Order). thenBy x (thenBy (seriesOrder (p .first) (q .first)) (restOrder p q)) ≡ x) (p .kind) (q .kind) (λ h. refl) (λ h. absurd (n h)) (λ h. refl))
+
+  pub firsts-decide : {x : Order} → p .kind ≡ q .kind → x ≡ seriesOrder (p .first) (q .first) → o ≡ thenBy x (restOrder p q) → o ≡ bytesOrder (pairRank p) (pairRank q)
+  firsts-decide k e f = f ∙ rw e (sym (pair-order p q ∙ rw (sym (is-same k))))
 
 -- Empty rows are what they are tested to be.
 future-is : (n : Nature) → isFuture n ≡ true → n ≡ Future

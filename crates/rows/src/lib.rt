@@ -3,6 +3,7 @@ ghost use mathlib.Core.Path.{_≡_};
 ghost use Prim.Native.Nat.{_-_};
 ghost use Rattle.laws.specs.Order.{bytesOrder};
 ghost use Rattle.rows.specs.Rows.{holdingRank, pairRank, sameSeries, newHolding, newPair, noLots, noUnits, lotsOn, lessened, emptySeries, emptyHolding, emptyPair, isEmptySeries, isEmptyHolding, isEmptyPair};
+ghost use Rattle.rows.specs.RowLaws.{restOrder};
 ghost use Rattle.rows.specs.Book.{emptyBook};
 use laws::Order;
 use series::Nature;
@@ -191,19 +192,31 @@ pub fn compare_holdings(h: Holding, k: Holding) -> Order
     series::compare(a, b)
 }
 
+// The order of two pairs of one kind and first series: by second series, r1, r2.
+fn compare_rest(p: Pair, q: Pair) -> Order
+    ensures { λ r. ⌜ r ≡ restOrder p q ⌝ }
+{
+    let b = p.second;
+    let d = q.second;
+    let seconds = series::compare(b, d);
+    let r1 = laws::order_of(p.r1 as u64, q.r1 as u64);
+    let r2 = laws::order_of(p.r2 as u64, q.r2 as u64);
+    laws::then_by(seconds, laws::then_by(r1, r2))
+}
+
 // The order of two pairs: by kind, first series, second series, r1, r2.
 pub fn compare_pairs(p: Pair, q: Pair) -> Order
     ensures { λ r. ⌜ r ≡ bytesOrder (pairRank p) (pairRank q) ⌝ }
 {
+    if p.kind != q.kind {
+        return laws::order_of(p.kind as u64, q.kind as u64);
+    }
     let a = p.first;
-    let b = p.second;
     let c = q.first;
-    let d = q.second;
-    let kinds = laws::order_of(p.kind as u64, q.kind as u64);
     let firsts = series::compare(a, c);
-    let seconds = series::compare(b, d);
-    let r1 = laws::order_of(p.r1 as u64, q.r1 as u64);
-    let r2 = laws::order_of(p.r2 as u64, q.r2 as u64);
-    let ratios = laws::then_by(r1, r2);
-    laws::then_by(kinds, laws::then_by(firsts, laws::then_by(seconds, ratios)))
+    match firsts {
+        Order::Less => Order::Less,
+        Order::Same => compare_rest(p, q),
+        Order::More => Order::More,
+    }
 }

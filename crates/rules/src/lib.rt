@@ -1,11 +1,9 @@
 // The rules of a book: ranges, holdings and pairs in their arrays. What lots are total, tied and free is in specs/Lots.
 ghost use mathlib.Core.Path.{_≡_};
-ghost use Prim.Native.Nat.{_≤_};
-ghost use lib.ListN.{take, drop};
+ghost use lib.ListN.{drop};
 ghost use Rattle.laws.specs.Search.{everyLine};
-ghost use Rattle.lists.specs.Sorted.{ascending};
-ghost use Rattle.rows.specs.Rows.{holdingRank, pairRank, isEmptyHolding, isEmptyPair};
-ghost use Rattle.rules.specs.Rules.{accountFits, isIdentity, countsFit, goodHolding, goodPair, holdingsSound, pairsSound};
+ghost use Rattle.rows.specs.Rows.{isEmptyHolding, isEmptyPair};
+ghost use Rattle.rules.specs.Rules.{accountFits, isIdentity, countsFit, goodHolding};
 use rows::Holding;
 use rows::Pair;
 
@@ -53,82 +51,8 @@ pub fn good_holding(h: Holding) -> bool
     )
 }
 
-pub fn good_pair(p: Pair) -> bool
-    ensures { λ r. ⌜ r ≡ goodPair p ⌝ }
-{
-    let a = p.first;
-    let b = p.second;
-    let first = series::series_number(a) == 0;
-    let second = series::series_number(b) == 0;
-    let counts = counts_fit(p.r1, p.r2, p.units);
-    let stands = pairing::may_stand(p.kind, a, b, p.r1, p.r2);
-    laws::and(first, laws::and(second, laws::and(counts, stands)))
-}
-
-fn holdings_good(rows: [Holding; 128], held: usize) -> bool
-    requires { ⌜ held ≤ 128 ⌝ }
-    ensures { λ r. ⌜ r ≡ everyLine goodHolding (take held rows) ⌝ }
-{
-    let mut i: usize = 0;
-    while i < held {
-        let h = rows[i];
-        if !good_holding(h) {
-            return false;
-        }
-        i += 1;
-    }
-    true
-}
-
-fn pairs_good(rows: [Pair; 128], paired: usize) -> bool
-    requires { ⌜ paired ≤ 128 ⌝ }
-    ensures { λ r. ⌜ r ≡ everyLine goodPair (take paired rows) ⌝ }
-{
-    let mut i: usize = 0;
-    while i < paired {
-        let p = rows[i];
-        if !good_pair(p) {
-            return false;
-        }
-        i += 1;
-    }
-    true
-}
-
-fn holdings_ascend(rows: [Holding; 128], held: usize) -> bool
-    requires { ⌜ held ≤ 128 ⌝ }
-    ensures { λ r. ⌜ r ≡ ascending holdingRank (take held rows) ⌝ }
-{
-    let mut i: usize = 1;
-    while i < held {
-        let h = rows[i - 1];
-        let k = rows[i];
-        if !laws::is_less(rows::compare_holdings(h, k)) {
-            return false;
-        }
-        i += 1;
-    }
-    true
-}
-
-fn pairs_ascend(rows: [Pair; 128], paired: usize) -> bool
-    requires { ⌜ paired ≤ 128 ⌝ }
-    ensures { λ r. ⌜ r ≡ ascending pairRank (take paired rows) ⌝ }
-{
-    let mut i: usize = 1;
-    while i < paired {
-        let p = rows[i - 1];
-        let q = rows[i];
-        if !laws::is_less(rows::compare_pairs(p, q)) {
-            return false;
-        }
-        i += 1;
-    }
-    true
-}
-
 // Whether the rows behind the first `held` are empty.
-fn holdings_end(rows: [Holding; 128], held: usize) -> bool
+pub fn holdings_end(rows: [Holding; 128], held: usize) -> bool
     ensures { λ r. ⌜ r ≡ everyLine isEmptyHolding (drop held rows) ⌝ }
 {
     let mut i = held;
@@ -142,7 +66,7 @@ fn holdings_end(rows: [Holding; 128], held: usize) -> bool
     true
 }
 
-fn pairs_end(rows: [Pair; 128], paired: usize) -> bool
+pub fn pairs_end(rows: [Pair; 128], paired: usize) -> bool
     ensures { λ r. ⌜ r ≡ everyLine isEmptyPair (drop paired rows) ⌝ }
 {
     let mut i = paired;
@@ -154,36 +78,4 @@ fn pairs_end(rows: [Pair; 128], paired: usize) -> bool
         i += 1;
     }
     true
-}
-
-// Whether holdings in their array keep the rules.
-pub fn holdings_sound(rows: [Holding; 128], held: usize) -> bool
-    ensures { λ r. ⌜ r ≡ holdingsSound held rows ⌝ }
-{
-    if 128 < held {
-        return false;
-    }
-    if !holdings_end(rows, held) {
-        return false;
-    }
-    if !holdings_good(rows, held) {
-        return false;
-    }
-    holdings_ascend(rows, held)
-}
-
-// Whether pairs in their array keep the rules, but for what they tie.
-pub fn pairs_sound(rows: [Pair; 128], paired: usize) -> bool
-    ensures { λ r. ⌜ r ≡ pairsSound paired rows ⌝ }
-{
-    if 128 < paired {
-        return false;
-    }
-    if !pairs_end(rows, paired) {
-        return false;
-    }
-    if !pairs_good(rows, paired) {
-        return false;
-    }
-    pairs_ascend(rows, paired)
 }

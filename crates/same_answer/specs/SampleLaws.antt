@@ -30,7 +30,7 @@ use Rattle.amounts.specs.Lots.{indexOption, indexTerms}
 use Rattle.amounts.specs.Singles.{portion, worth, dollars, premiumValue, outOfMoney, single, indexMargin}
 use Rattle.units.specs.Units.{lowerPremium, mixedAt, mixedMargin, formula}
 use Rattle.sheets.specs.Rows.{futureCodes, optionCodes, noIndex, clearingIn, indexIn}
-use Rattle.sheets.specs.Sheet.{placeIn, futurePlace, optionPlace, placeAt, priceAt, laidOut, clearingOn, indexOn, priceOn}
+use Rattle.sheets.specs.Sheet.{placeIn, futurePlace, optionPlace, soughtIn, priceAmong, laidOut, clearingOn, indexOn, priceOn}
 use Rattle.checking.specs.Lines.{headForm, optionForm, priceForm, optionFrom, priceFrom, letterIn, formOf, said, lineBy, lineFrom, lineOf, rank, ownChecks, checksBy, lineChecks}
 use Rattle.checking.specs.Reading.{dayOf, futureRow, optionRow, priceRow, rowsOf, accepted, judgeLines, judged, sheetOf, readText}
 use Rattle.quotes.specs.Quotes.{onSheet, ownLine, lotLines, clearingSaid, priceSaid, lotAs, termsAs, quoteAs, quoteOf}
@@ -45,5 +45,5 @@ pub record Sampled : Type 0 where
   pub nothing : marginText nothingHeld sampleSheet ≡ record { number = 0; line = 0; levels = flat 0 }
 
 pub sampled : Sampled
-unfolding october call put sampleBook sampleSheet nothingHeld sameBytes firstFailing allPass byKind orderOf bytesOrder join firstWhere everyLine gathered full sumOf ascendingFrom ascending look dayOf shortMonth daysIn isDay listed productOf classOf seriesChecks goodSeries codeKey natureKey highKey key sameCode callThenPut oneToOne twoShort partsOf pairChecks mayStand firstSide secondSide holdingsOf pairsOf bookOf emptyBook holdingIn seriesRank holdingRank pairRank sameSeries emptyHolding emptyPair isEmptySeries isEmptyHolding isEmptyPair firstLeg secondLeg ties tiedBy tied total freeHolding freeRows legCovered pairCovered covered countsFit goodHolding goodPair rowsSound holdingsSound pairsSound bookRules soundBook halved placeOf findIn isDigit valueFrom valueOf noLeadingZero isNumber isFixed figureOf codeIn markIn cellOf hasForm cellsOf natureOf seriesOf splitOn listOf fieldsOf stepsNear halfUp toDollar clearingFits levelsFit indexFits optionFits indexAsked termsAsked indexOption indexTerms portion worth dollars premiumValue outOfMoney single indexMargin lowerPremium mixedAt mixedMargin formula futureCodes optionCodes noIndex clearingIn indexIn placeIn futurePlace optionPlace placeAt priceAt laidOut clearingOn indexOn priceOn headForm optionForm priceForm optionFrom priceFrom letterIn formOf said lineBy lineFrom lineOf rank ownChecks checksBy lineChecks futureRow optionRow priceRow rowsOf accepted judgeLines judged sheetOf readText onSheet ownLine lotLines clearingSaid priceSaid lotAs termsAs quoteAs quoteOf sheetView holdingMargin pairMargin sumLevels accountMargin marginChecks marginNumber marginOn marginText chargedLots ownLineOf linesOf neededByHolding neededByPair neededBy
+unfolding october call put sampleBook sampleSheet nothingHeld sameBytes firstFailing allPass byKind orderOf bytesOrder join firstWhere everyLine gathered full sumOf ascendingFrom ascending look dayOf shortMonth daysIn isDay listed productOf classOf seriesChecks goodSeries codeKey natureKey highKey key sameCode callThenPut oneToOne twoShort partsOf pairChecks mayStand firstSide secondSide holdingsOf pairsOf bookOf emptyBook holdingIn seriesRank holdingRank pairRank sameSeries emptyHolding emptyPair isEmptySeries isEmptyHolding isEmptyPair firstLeg secondLeg ties tiedBy tied total freeHolding freeRows legCovered pairCovered covered countsFit goodHolding goodPair rowsSound holdingsSound pairsSound bookRules soundBook halved placeOf findIn isDigit valueFrom valueOf noLeadingZero isNumber isFixed figureOf codeIn markIn cellOf hasForm cellsOf natureOf seriesOf splitOn listOf fieldsOf stepsNear halfUp toDollar clearingFits levelsFit indexFits optionFits indexAsked termsAsked indexOption indexTerms portion worth dollars premiumValue outOfMoney single indexMargin lowerPremium mixedAt mixedMargin formula futureCodes optionCodes noIndex clearingIn indexIn placeIn futurePlace optionPlace soughtIn priceAmong laidOut clearingOn indexOn priceOn headForm optionForm priceForm optionFrom priceFrom letterIn formOf said lineBy lineFrom lineOf rank ownChecks checksBy lineChecks futureRow optionRow priceRow rowsOf accepted judgeLines judged sheetOf readText onSheet ownLine lotLines clearingSaid priceSaid lotAs termsAs quoteAs quoteOf sheetView holdingMargin pairMargin sumLevels accountMargin marginChecks marginNumber marginOn marginText chargedLots ownLineOf linesOf neededByHolding neededByPair neededBy
 sampled = record { sample = refl; nothing = refl }

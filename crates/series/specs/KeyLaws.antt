@@ -51,7 +51,7 @@ letter-fits Future = omega arith
 letter-fits (Call k) = omega arith
 letter-fits (Put k) = omega arith
 
-nature-fits : (n : Nature) → strikeOf n < 2 ^ 32 → natureKey n < 2 ^ 40
+pub nature-fits : (n : Nature) → strikeOf n < 2 ^ 32 → natureKey n < 2 ^ 40
 unfolding natureKey join
 nature-fits n h = omega (arith, letter-fits n)
 
@@ -93,17 +93,20 @@ unfolding bytesOrder
 halves-order a b ga gb =
     ap (thenBy (orderOf (highKey a) (highKey b))) (then-same _) ∙ by-halves a b (nature-fits (a .nature) (good-fits a ga .strike)) (nature-fits (b .nature) (good-fits b gb .strike)) refl
 
--- Only one series is the same in the order as a series that passes the checks: itself.
-pub same-series : (a b : Series) → goodSeries a ≡ true → goodSeries b ≡ true → seriesOrder a b ≡ Same → a ≡ b
+-- Only one series is the same in the order as a series whose parts are in their ranges: itself; so it is with those that pass the checks.
+pub same-fitting : (a b : Series) → Fits a → Fits b → seriesOrder a b ≡ Same → a ≡ b
 unfolding partsOrder
-same-series a b ga gb e =
-    let h = both-same _ _ (sym (by-parts a b (good-fits a ga) (good-fits b gb)) ∙ e) in
+same-fitting a b fa fb e =
+    let h = both-same _ _ (sym (by-parts a b fa fb) ∙ e) in
     let k = both-same _ _ (h .1) in
     let l = both-same _ _ (k .1) in
     let c = same-text (a .code) (b .code) (h .0) in
     let d = same-says (a .date) (b .date) (k .0) in
     let n = same-nature (a .nature) (b .nature) (same-says _ _ (l .0)) (same-says _ _ (l .1)) in
     λ i. record { code = c i; date = d i; nature = n i }
+
+pub same-series : (a b : Series) → goodSeries a ≡ true → goodSeries b ≡ true → seriesOrder a b ≡ Same → a ≡ b
+same-series a b ga gb e = same-fitting a b (good-fits a ga) (good-fits b gb) e
 
 pub self-same : (a : Series) → seriesOrder a a ≡ Same
 unfolding seriesOrder

@@ -6,8 +6,8 @@ use Prim.Native.Nat.{ℕ, zero, suc, _+_, _-_, _<_, _≤_}
 use native.Mathlib.Omega.{arith}
 use borrow.Author.Tests.{ltb-true, lt-ltb, le-ltb, eqb-true, eq-eqb}
 use lib.Dec.{eqb, ltb}
-use lib.ListN.{getD, length, replicate, length-map, List·getD-append}
-use lib.Seq.{getD-append-add}
+use lib.ListN.{getD, length, take, replicate, length-map, List·getD-append}
+use lib.Seq.{getD-append-add, take-append-seam}
 use Rattle.laws.specs.declared.Order.the-variants.{Less}
 use Rattle.laws.specs.Truth.{both}
 use Rattle.laws.specs.TruthLaws.{both-true, by-test, clash}
@@ -24,18 +24,19 @@ use Rattle.lists.specs.SortedLaws.{before-at}
 use Rattle.halving.specs.Halving.{keyAt, findIn, Rising}
 use Rattle.halving.specs.HalvingLaws.{find-at, find-none}
 use Rattle.series.specs.declared.Series.{Series}
-use Rattle.series.specs.declared.Nature.the-variants.{Future}
 use Rattle.series.specs.Checks.{goodSeries}
 use Rattle.series.specs.Key.{highKey, natureKey, key, seriesOrder}
 use Rattle.series.specs.KeyLaws.{halves-order, same-series}
 use Rattle.amounts.specs.declared.StockLine.{StockLine}
+use Rattle.sheets.specs.declared.Found.{Found}
 use Rattle.sheets.specs.declared.FutureRow.{FutureRow}
 use Rattle.sheets.specs.declared.OptionRow.{OptionRow}
 use Rattle.sheets.specs.declared.StockRow.{StockRow}
 use Rattle.sheets.specs.declared.PriceRow.{PriceRow}
-use Rattle.sheets.specs.Rows.{Rows, futureCodes, optionCodes, found, nothing, noIndex, noStock, clearingIn, indexIn, stockIn, priceIn}
-use Rattle.sheets.specs.Sheet.{placeIn, futurePlace, optionPlace, stockAt, placeAt, priceAt, laidOut, clearingOn, indexOn, stockOn, priceOn}
+use Rattle.sheets.specs.Rows.{Rows, futureCodes, optionCodes, found, nothing, noIndex, noStock, noPrice, clearingIn, indexIn, stockIn, priceIn}
+use Rattle.sheets.specs.Sheet.{placeIn, futurePlace, optionPlace, stockAt, priceAmong, laidOut, clearingOn, indexOn, stockOn, priceOn}
 use Rattle.sheets.specs.TableLaws.{table-get}
+use Rattle.sheets.specs.SeekLaws.{among-there, among-nowhere}
 
 -- Rows as they stand on a sheet: F and O rows of listed codes, S rows in order of their codes, which end in a 0 byte, Q rows in order of
 -- their series.
@@ -170,7 +171,7 @@ module _ (number line : ℕ) {rows : Rows} (o : Ordered rows) where
   nthStock i = getD (rows .stocks) i (record { code = []; line = noStock })
 
   nthPrice : ℕ → PriceRow
-  nthPrice i = getD (rows .prices) i (record { series = record { code = []; date = 0; nature = Future }; price = 0 })
+  nthPrice i = getD (rows .prices) i noPrice
 
   code-at : (i : ℕ) → i < length (rows .stocks) → (length (nthStock i .code) ≡ 3) × (getD (nthStock i .code) 2 0 ≡ 0)
   unfolding nthStock
@@ -219,12 +220,18 @@ module _ (number line : ℕ) {rows : Rows} (o : Ordered rows) where
   prices-rise i j lt le =
       key-before (nthPrice i .series) (nthPrice j .series) (good-at i (omega arith)) (good-at j le) (before-at (λ (r : PriceRow). key (r .series) ∷ []) (rows .prices) i j _ (o .prices-order) lt le)
 
+  -- whether a Q row is of a series, and the price that it says
+  abbrev isOf : Series → PriceRow → Bool
+  isOf s r = eqb (key (r .series)) (key s)
+
+  abbrev priceSaid : PriceRow → Found
+  priceSaid r = found (r .price)
+
   pub price-found : (s : Series) → goodSeries s ≡ true → priceOn (laidOut number line rows) s ≡ priceIn (rows .prices) s
-  unfolding priceOn laidOut priceIn priceAt placeAt nthPrice
+  unfolding priceOn laidOut priceIn full nthPrice
   price-found s g =
-      looked-up (λ (r : PriceRow). highKey (r .series)) (λ (r : PriceRow). natureKey (r .series .nature)) _ (rows .prices) (o .prices-few) prices-rise
-      (λ (r : PriceRow). eqb (key (r .series)) (key s)) (λ (r : PriceRow). found (r .price)) nothing (highKey s ∷ natureKey (s .nature) ∷ [])
-      (λ i lt t. ap (λ (u : Series). highKey u ∷ natureKey (u .nature) ∷ []) (same-key (nthPrice i .series) s (good-at i lt) g t))
-      (λ i lt t. same-halves (nthPrice i .series) s t)
-      (λ i lt is. rw (is, lt-ltb i (length (rows .prices)) lt) (ap found (full-says (λ (r : PriceRow). r .price) 0 _ 1024 (rows .prices) i lt)))
-      (λ is. rw (is, le-ltb (length (rows .prices)) (length (rows .prices)) (omega arith)))
+      rw (take-append-seam (rows .prices) (replicate (1024 - length (rows .prices)) noPrice)) (go (sought (isOf s) priceSaid nothing noPrice (rows .prices)))
+    where
+      go : Sought (isOf s) priceSaid nothing noPrice (rows .prices) → priceAmong (rows .prices) (highKey s ∷ natureKey (s .nature) ∷ []) ≡ firstWhere (isOf s) priceSaid nothing (rows .prices)
+      go (there i lt t e) = among-there (rows .prices) _ prices-rise i lt (ap (λ (u : Series). highKey u ∷ natureKey (u .nature) ∷ []) (same-key (nthPrice i .series) s (good-at i lt) g t)) ∙ sym e
+      go (nowhere h e) = among-nowhere (rows .prices) _ prices-rise (λ i lt q. h i lt (same-halves (nthPrice i .series) s q)) ∙ sym e

@@ -7,6 +7,7 @@ use Rattle.laws.specs.Text.{three}
 use Rattle.laws.specs.Bytes.{sameBytes}
 use Rattle.laws.specs.Search.{firstWhere}
 use Rattle.series.specs.declared.Series.{Series}
+use Rattle.series.specs.declared.Nature.the-variants.{Future}
 use Rattle.series.specs.Key.{key}
 use Rattle.levels.specs.Levels.{flat}
 use Rattle.amounts.specs.declared.IndexLine.{IndexLine}
@@ -49,6 +50,10 @@ noIndex = record { multiplier = 0; a = flat 0; b = flat 0; c = flat 0; underlyin
 
 unfoldable pub noStock : StockLine
 noStock = record { shares = 0; future = 0; option = 0; c = flat 0; disposition = 0; price = 0 }
+
+-- an empty Q row
+abbrev pub noPrice : PriceRow
+noPrice = record { series = record { code = 0 ∷ 0 ∷ 0 ∷ []; date = 0; nature = Future }; price = 0 }
 
 -- the clearing amount of a future, the O line of an option, the S line of a stock, the price of a series
 unfoldable pub clearingIn : List FutureRow → List ℕ → Found

@@ -1,14 +1,15 @@
--- A sheet in plain fields: F and O rows at their codes' places, S and Q rows in order of their keys, which are searched by halving;
--- unused room is zeros (document 01, "Text": "A sheet has at most 65,536 bytes and 1,024 lines"). LookupLaws: what is found there is
+-- A sheet as it is held: F and O rows at their codes' places, S and Q rows in order of their keys, which are searched by halving;
+-- unused room is empty (document 01, "Text": "A sheet has at most 65,536 bytes and 1,024 lines"). LookupLaws: what is found there is
 -- the row with that key.
 use mathlib.Core.List.{List, [], _∷_, map}
-use Prim.Native.Nat.{ℕ, suc}
+use Prim.Native.Nat.{ℕ, zero, suc, _+_, min}
 use lib.Dec.{eqb, ltb}
-use lib.ListN.{getD, length}
+use lib.ListN.{getD, length, take, set, replicate}
 use Rattle.laws.specs.Truth.{pick}
 use Rattle.laws.specs.Bytes.{sameBytes}
+use Rattle.laws.specs.Order.{byOrder, bytesOrder}
 use Rattle.lists.specs.Places.{full}
-use Rattle.halving.specs.Halving.{findIn}
+use Rattle.halving.specs.Halving.{keyAt, middle, findIn}
 use Rattle.series.specs.declared.Series.{Series}
 use Rattle.series.specs.Key.{highKey, natureKey}
 use Rattle.amounts.specs.declared.IndexLine.{IndexLine}
@@ -17,7 +18,7 @@ use Rattle.sheets.specs.declared.Found.{Found}
 use Rattle.sheets.specs.declared.StockRow.{StockRow}
 use Rattle.sheets.specs.declared.PriceRow.{PriceRow}
 use Rattle.sheets.specs.declared.Sheet.{Sheet}
-use Rattle.sheets.specs.Rows.{Rows, futureCodes, optionCodes, found, nothing, noIndex, noStock, clearingIn, indexIn}
+use Rattle.sheets.specs.Rows.{Rows, futureCodes, optionCodes, found, nothing, noIndex, noStock, noPrice, clearingIn, indexIn}
 
 -- how many codes stand before this one; all of them where it is none of them
 unfoldable pub placeIn : List (List ℕ) → List ℕ → ℕ
@@ -35,13 +36,33 @@ unfoldable pub stockAt : List ℕ → List ℕ → ℕ → List ℕ → ℕ
 stockAt firsts seconds count code =
     pick (eqb (getD code 2 0) 0) (findIn firsts seconds count (getD code 0 0 ∷ getD code 1 0 ∷ [])) count
 
--- the price of a series among so many rows, by the halves of its key
-unfoldable pub placeAt : List ℕ → List ℕ → ℕ → Series → ℕ
-placeAt highs lows count s = findIn highs lows count (highKey s ∷ natureKey (s .nature) ∷ [])
+-- the key of a Q row's series, half by half
+abbrev pub rowKey : PriceRow → List ℕ
+rowKey r = highKey (r .series) ∷ natureKey (r .series .nature) ∷ []
 
-unfoldable pub priceAt : List ℕ → List ℕ → List ℕ → ℕ → Series → Found
-priceAt highs lows prices count s =
-    pick (ltb (placeAt highs lows count s) count) (found (getD prices (placeAt highs lows count s) 0)) nothing
+-- the price that so many steps of halving find of the key k among the rows from low to high: the half that cannot hold it is given up
+unfoldable pub soughtIn : List PriceRow → List ℕ → ℕ → ℕ → ℕ → Found
+soughtIn rows k zero low high = nothing
+soughtIn rows k (suc steps) low high =
+    pick (ltb low high)
+    (byOrder (bytesOrder (rowKey (getD rows (middle low high) noPrice)) k)
+    (soughtIn rows k steps (middle low high + 1) high)
+    (found (getD rows (middle low high) noPrice .price))
+    (soughtIn rows k steps low (middle low high)))
+    nothing
+
+-- the price of the key k among rows; there are no more steps than rows
+unfoldable pub priceAmong : List PriceRow → List ℕ → Found
+priceAmong rows k = soughtIn rows k (length rows) 0 (length rows)
+
+-- the first n places of a list, each filled by what is said of it
+unfoldable pub filled : {A : Type 0} → (ℕ → A) → ℕ → List A → List A
+filled says zero l = l
+filled says (suc n) l = filled says n (set l n (says n))
+
+-- the prices of so many keys, at most 128, among the first `count` rows
+unfoldable pub pricesAt : List PriceRow → ℕ → List ℕ → List ℕ → ℕ → List Found
+pricesAt rows count highs lows held = filled (λ (i : ℕ). priceAmong (take count rows) (keyAt highs lows i)) (min held 128) (replicate 128 nothing)
 
 -- a number and a line, and these rows
 unfoldable pub laidOut : ℕ → ℕ → Rows → Sheet
@@ -56,9 +77,7 @@ laidOut number line rows =
       firsts = full 1024 0 (map (λ (r : StockRow). getD (r .code) 0 0) (rows .stocks));
       seconds = full 1024 0 (map (λ (r : StockRow). getD (r .code) 1 0) (rows .stocks));
       listed = length (rows .stocks);
-      highs = full 1024 0 (map (λ (r : PriceRow). highKey (r .series)) (rows .prices));
-      lows = full 1024 0 (map (λ (r : PriceRow). natureKey (r .series .nature)) (rows .prices));
-      prices = full 1024 0 (map (λ (r : PriceRow). r .price) (rows .prices));
+      prices = full 1024 noPrice (rows .prices);
       quoted = length (rows .prices);
     }
 
@@ -73,4 +92,4 @@ unfoldable pub stockOn : Sheet → List ℕ → StockLine
 stockOn sheet code = getD (sheet .stocks) (stockAt (sheet .firsts) (sheet .seconds) (sheet .listed) code) noStock
 
 unfoldable pub priceOn : Sheet → Series → Found
-priceOn sheet s = priceAt (sheet .highs) (sheet .lows) (sheet .prices) (sheet .quoted) s
+priceOn sheet s = priceAmong (take (sheet .quoted) (sheet .prices)) (highKey s ∷ natureKey (s .nature) ∷ [])

@@ -1,10 +1,18 @@
 // The day's sheet, read into plain fields, and where each of its rows is found: F and O rows by place, S and Q rows by halving.
 ghost use mathlib.Core.Path.{_≡_};
-ghost use lib.ListN.{getD};
-ghost use Rattle.sheets.specs.Rows.{nothing, found, noIndex, noStock, noRows};
-ghost use Rattle.sheets.specs.Sheet.{futurePlace, optionPlace, stockAt, priceAt, laidOut};
+ghost use mathlib.Core.List.{[], _∷_};
+ghost use Prim.Native.Nat.{ℕ, _+_, _≤_, _<_};
+ghost use lib.ListN.{getD, take, replicate};
+ghost use Rattle.laws.specs.Order.{byOrder, bytesOrder};
+ghost use Rattle.halving.specs.Halving.{keyAt, middle};
+ghost use Rattle.sheets.specs.Rows.{nothing, found, noIndex, noStock, noPrice, noRows};
+ghost use Rattle.sheets.specs.Sheet.{futurePlace, optionPlace, stockAt, rowKey, priceAmong, filled, pricesAt, laidOut};
+ghost use Rattle.sheets.specs.Seeking.{searchFrom, foundAt};
 use amounts::IndexLine;
 use amounts::StockLine;
+use laws::Order;
+use series::Halves;
+use series::Nature;
 use series::Series;
 
 // An amount, or that there is none.
@@ -38,7 +46,7 @@ pub struct PriceRow {
 }
 
 // What a text reads as. Its number and line, 0 and 0 where it is a sheet; the day; the F and O rows, each at its code's place; the
-// S rows with the two letters of each, and the Q rows by the two halves of their series' keys, both in order with a count.
+// S rows with the two letters of each, and the Q rows, both in order with a count.
 pub struct Sheet {
     pub number: u8,
     pub line: u32,
@@ -49,10 +57,16 @@ pub struct Sheet {
     pub firsts: [u64; 1024],
     pub seconds: [u64; 1024],
     pub listed: usize,
-    pub highs: [u64; 1024],
-    pub lows: [u64; 1024],
-    pub prices: [u32; 1024],
+    pub prices: [PriceRow; 1024],
     pub quoted: usize,
+}
+
+// How far a search among Q rows has come: it is left from low to high, the middle is looked at next; and what was found.
+struct Search {
+    low: usize,
+    high: usize,
+    middle: usize,
+    found: Found,
 }
 
 fn no_amount() -> Found
@@ -99,6 +113,19 @@ pub fn no_stock() -> StockLine
     }
 }
 
+fn no_price() -> PriceRow
+    ensures { λ r. ⌜ r ≡ noPrice ⌝ }
+{
+    PriceRow {
+        series: Series {
+            code: [0; 3],
+            date: 0,
+            nature: Nature::Future,
+        },
+        price: 0,
+    }
+}
+
 // A sheet of no rows, which a refused text reads as.
 pub fn empty_sheet(number: u8, line: u32) -> Sheet
     ensures { λ r. ⌜ r ≡ laidOut number line noRows ⌝ }
@@ -106,6 +133,7 @@ pub fn empty_sheet(number: u8, line: u32) -> Sheet
     let none = no_amount();
     let index = no_index();
     let stock = no_stock();
+    let price = no_price();
     Sheet {
         number,
         line,
@@ -116,9 +144,7 @@ pub fn empty_sheet(number: u8, line: u32) -> Sheet
         firsts: [0; 1024],
         seconds: [0; 1024],
         listed: 0,
-        highs: [0; 1024],
-        lows: [0; 1024],
-        prices: [0; 1024],
+        prices: [price; 1024],
         quoted: 0,
     }
 }
@@ -183,32 +209,123 @@ pub fn stock_place<'a>(firsts: &'a [u64], seconds: &'a [u64], count: usize, code
     halving::find(firsts, seconds, count, code[0] as u64, code[1] as u64)
 }
 
-fn amount_at(amounts: &[u32], place: usize) -> u32
-    ensures { λ r. ⌜ r ≡ getD (now (amounts .entry)) place 0 ⌝ }
+fn middle_of(low: usize, high: usize) -> usize
+    ensures { λ r. ⌜ r ≡ middle low high ⌝ }
 {
-    if place < amounts.len() {
-        amounts[place]
-    } else {
-        0
+    if high <= low {
+        return low;
+    }
+    low + (high - low) / 2
+}
+
+// A search from low to high.
+fn search_from(low: usize, high: usize) -> Search
+    ensures { λ r. ⌜ r ≡ searchFrom low high ⌝ }
+{
+    Search {
+        low,
+        high,
+        middle: middle_of(low, high),
+        found: no_amount(),
     }
 }
 
-// The price of a series among the first `count` rows.
-pub fn price_of<'a>(
+// A search that is at its end.
+fn found_at(place: usize, price: u32) -> Search
+    ensures { λ r. ⌜ r ≡ foundAt place price ⌝ }
+{
+    Search {
+        low: place,
+        high: place,
+        middle: place,
+        found: some_amount(price),
+    }
+}
+
+// The search behind its middle row: in the half that can hold the key, or at its end where the row has the key.
+fn narrowed(s: Search, row: PriceRow, key: Halves) -> Search
+    requires { ⌜ s .middle < s .high ⌝ }
+    ensures { λ r. ⌜ r ≡ byOrder (bytesOrder (rowKey row) (key .high ∷ key .low ∷ [])) (searchFrom (s .middle + 1) (s .high)) (foundAt (s .middle) (row .price)) (searchFrom (s .low) (s .middle)) ⌝ }
+{
+    let series = row.series;
+    let k = series::halves_of(series);
+    let low = laws::order_of(k.low, key.low);
+    let order = laws::then_by(laws::order_of(k.high, key.high), low);
+    match order {
+        Order::Less => search_from(s.middle + 1, s.high),
+        Order::Same => found_at(s.middle, row.price),
+        Order::More => search_from(s.low, s.middle),
+    }
+}
+
+// The price of the series with this key among rows, by halving.
+pub fn price_of(rows: &[PriceRow], key: Halves) -> Found
+    ensures { λ r. ⌜ r ≡ priceAmong (now (rows .entry)) (key .high ∷ key .low ∷ []) ⌝ }
+{
+    let mut s = search_from(0, rows.len());
+    while s.low < s.high {
+        s = narrowed(s, rows[s.middle], key);
+    }
+    s.found
+}
+
+// The key at a place.
+fn key_at<'a>(highs: &'a [u64], lows: &'a [u64], i: usize) -> Halves
+    ensures { λ r. ⌜ r ≡ record { high = getD (now (highs .entry)) i 0; low = getD (now (lows .entry)) i 0 } ⌝ }
+{
+    Halves {
+        high: half_at(highs, i),
+        low: half_at(lows, i),
+    }
+}
+
+fn half_at(halves: &[u64], i: usize) -> u64
+    ensures { λ r. ⌜ r ≡ getD (now (halves .entry)) i 0 ⌝ }
+{
+    if i < halves.len() { halves[i] } else { 0 }
+}
+
+fn no_amounts() -> [Found; 128]
+    ensures { λ r. ⌜ r ≡ replicate 128 nothing ⌝ }
+{
+    let none = no_amount();
+    [none; 128]
+}
+
+// The prices of the first `held` keys among the first `count` rows, which are lent.
+fn prices_within<'a>(
+    rows: [PriceRow; 1024],
+    count: usize,
     highs: &'a [u64],
     lows: &'a [u64],
-    prices: &'a [u32],
-    count: usize,
-    s: Series,
-) -> Found
-    ensures { λ r. ⌜ r ≡ priceAt (now (highs .entry)) (now (lows .entry)) (now (prices .entry)) count s ⌝ }
+    held: usize,
+) -> [Found; 128]
+    requires { ⌜ (count ≤ 1024) × (held ≤ 128) ⌝ }
+    ensures { λ r. ⌜ r ≡ filled (λ (i : ℕ). priceAmong (take count rows) (keyAt (now (highs .entry)) (now (lows .entry)) i)) held (replicate 128 nothing) ⌝ }
 {
-    let k = series::halves_of(s);
-    let place = halving::find(highs, lows, count, k.high, k.low);
-    if count <= place {
-        return no_amount();
+    let lent = &rows[..count];
+    let mut all = no_amounts();
+    let mut i = held;
+    while 0 < i {
+        i = i - 1;
+        all[i] = price_of(lent, key_at(highs, lows, i));
     }
-    some_amount(amount_at(prices, place))
+    all
+}
+
+// The prices of the first `held` keys, at most 128, among the first `count` rows.
+pub fn prices_of<'a>(
+    rows: [PriceRow; 1024],
+    count: usize,
+    highs: &'a [u64],
+    lows: &'a [u64],
+    held: usize,
+) -> [Found; 128]
+    ensures { λ r. ⌜ r ≡ pricesAt rows count (now (highs .entry)) (now (lows .entry)) held ⌝ }
+{
+    let n = halving::lower(count, 1024);
+    let m = halving::lower(held, 128);
+    prices_within(rows, n, highs, lows, m)
 }
 
 // What the F rows say of a code, and the O rows.

@@ -1,4 +1,4 @@
--- Laws of the walk over the legs of pairs: each leg finds its row by halving and takes its lots from it.
+-- Laws of the walk over the legs of pairs: each leg takes its lots from its row.
 use mathlib.Core.Path.{_≡_, refl, ap, sym, _∙_, subst}
 use mathlib.Core.Bool.{Bool, true, false, not}
 use mathlib.Core.List.{List, [], _∷_, _++_}
@@ -10,22 +10,16 @@ use borrow.Author.Tests.{le-leb, lt-leb, leb-true, leb-false}
 use lib.Dec.{leb}
 use lib.ListN.{getD, length, take, drop, set, replicate, length-take, length-set, take-append-drop, drop-of-length-le}
 use lib.Seq.{drop-cons, getD-take, getD-set-same, getD-set-other, take-set-lt, drop-set-lt}
-use Rattle.laws.specs.declared.Order.{Order}
-use Rattle.laws.specs.declared.Order.the-variants.{Less}
-use Rattle.laws.specs.Truth.{both}
-use Rattle.laws.specs.TruthLaws.{both-true, clash, by-test, failed, passed}
+use Rattle.laws.specs.TruthLaws.{failed, passed}
 use Rattle.laws.specs.ByteLaws.{are-same, same-self}
 use Rattle.laws.specs.Search.{everyLine}
 use Rattle.laws.specs.SearchLaws.{every-at}
-use Rattle.laws.specs.Order.{bytesOrder}
-use Rattle.laws.specs.OrderLaws.{split-text}
 use Rattle.lists.specs.Places.{full}
 use Rattle.lists.specs.PlaceLaws.{length-full, drop-full}
-use Rattle.lists.specs.Sorted.{ascending, stands}
-use Rattle.lists.specs.SortedLaws.{look-none, absent-between, look-at, map-at, mapped-ascends}
+use Rattle.lists.specs.Sorted.{ascending}
+use Rattle.lists.specs.SortedLaws.{look-at, map-at, mapped-ascends}
 use Rattle.series.specs.declared.Series.{Series}
 use Rattle.series.specs.declared.Side.{Side}
-use Rattle.series.specs.Checks.{goodSeries}
 use Rattle.pairing.specs.Sides.{firstSide, secondSide}
 use Rattle.rows.specs.declared.Holding.{Holding}
 use Rattle.rows.specs.declared.Pair.{Pair}
@@ -37,11 +31,9 @@ use Rattle.rules.specs.Rules.{goodHolding, goodPair}
 use Rattle.rules.specs.Facts.{SoundRows, Counts, GoodPair}
 use Rattle.rules.specs.RuleLaws.{counts-are, pair-is}
 use Rattle.rules.specs.LotLaws.{legsOf, takenFrom, takes, covers, afterLegs, taken-rank, new-lots, covers-is, after-is}
-use Rattle.halving.specs.Halving.{Rising, PlaceIs}
 use Rattle.sound.specs.declared.Taken.{Taken}
 use Rattle.sound.specs.Checked.{notSound, checkedAs}
-use Rattle.sound.specs.Walk.{noRow, noPair, halves, Keyed, Walkable, takenLots}
-use Rattle.sound.specs.KeyedLaws.{keyed-fewer, key-order, rising-keys}
+use Rattle.sound.specs.Walk.{noRow, noPair, Walkable, takenLots}
 
 rank-same : (h : Holding) (s : Series) → holdingRank h ≡ seriesRank s → sameSeries (h .series) s ≡ true
 unfolding sameSeries holdingRank
@@ -61,15 +53,10 @@ pub walking-starts : (d : Holding) (rows : List Holding) (n : ℕ) (ls : List Le
 walking-starts d rows n ls long a = record { long = long; goes = refl; ends = refl; order = a; ranks = λ i lt. refl; behind = refl }
 
 module _ {d : Holding} {rows : List Holding} {n : ℕ} {w : Bool} {v : List Holding} {leg : Leg} {ls : List Leg} {free : List Holding} (few : n ≤ 128) (walk : Walking d rows n w v (leg ∷ ls) free) where
-  -- A leg whose series is not held, or whose row has too little, ends it.
+  -- A leg whose row has too little ends it.
   too-little : {m : ℕ} → total (take n free) (leg .series) (leg .side) ≡ m → m < leg .lots → false ≡ w
   unfolding covers
   too-little e lt = rw (e, lt-leb _ _ lt) at (walk .goes)
-
-  pub leg-absent : 1 ≤ leg .lots → stands holdingRank (seriesRank (leg .series)) (take n free) ≡ false → false ≡ w
-  unfolding total holdingIn
-  leg-absent some e =
-      too-little (ap (lotsOn (leg .side)) (look-none holdingRank (newHolding (leg .series)) (seriesRank (leg .series)) (take n free) e) ∙ new-lots (leg .side) (leg .series)) some
 
   module _ (i : ℕ) (lt : i < n) (is : sameSeries (getD free i d .series) (leg .series) ≡ true) where
     inside : i < length (take n free)
@@ -114,28 +101,6 @@ module _ {d : Holding} {rows : List Holding} {n : ℕ} {w : Bool} {v : List Hold
           behind = drop-set-lt n free i (lessened (leg .side) (leg .lots) (getD free i d)) lt ∙ walk .behind;
         }
 
-  -- The place that halving finds is the leg's row, or it has none.
-  pub leg-nowhere : {highs lows : List ℕ} {r : ℕ} → Keyed d rows n highs lows → everyLine goodHolding (take n rows) ≡ true → n ≤ length rows → goodSeries (leg .series) ≡ true → PlaceIs highs lows n (halves (leg .series)) r → (r < n → sameSeries (getD free r d .series) (leg .series) ≡ false) → stands holdingRank (seriesRank (leg .series)) (take n free) ≡ false
-  leg-nowhere {highs} {lows} {r} keyed good room g place other =
-      let long = walk .long in
-      let size : length (take n free) ≡ n = simp length-take (omega arith) in
-      let low = place .inside in
-      absent-between holdingRank (seriesRank (leg .series)) (take n free) r d (walk .order) (omega arith)
-      (λ i lt. moved i (omega arith) ∙ sym (key-order keyed good room (leg .series) i g (omega arith)) ∙ place .below i lt)
-      (λ lt. beyond (omega arith))
-    where
-      moved : (i : ℕ) → i < n → bytesOrder (holdingRank (getD (take n free) i d)) (seriesRank (leg .series)) ≡ bytesOrder (holdingRank (getD rows i d)) (seriesRank (leg .series))
-      moved i lt = rw (getD-take n free i d lt, walk .ranks i lt)
-
-      beyond : r < n → bytesOrder (seriesRank (leg .series)) (holdingRank (getD (take n free) r d)) ≡ Less
-      beyond lt =
-          rw (getD-take n free r d lt)
-          (split-text (λ (o : Order). bytesOrder (holdingRank (getD free r d)) (seriesRank (leg .series)) ≡ o → bytesOrder (seriesRank (leg .series)) (holdingRank (getD free r d)) ≡ Less) (holdingRank (getD free r d)) (seriesRank (leg .series))
-          (λ less e. absurd (place .rest r (omega arith) lt (key-order keyed good room (leg .series) r g lt ∙ rw (sym (walk .ranks r lt)) less)))
-          (λ same e. absurd (clash (rank-same (getD free r d) (leg .series) same) (other lt)))
-          (λ more e. more)
-          refl)
-
 -- The end of the walk: every leg has found its lots, and the rows are those with the free lots, then empty ones.
 pub walking-ends : {d : Holding} {rows : List Holding} {n : ℕ} {w : Bool} {v : List Holding} {free : List Holding} → SoundRows emptyHolding goodHolding holdingRank n rows → Walking d rows n w v [] free → (true ≡ w) × (free ≡ full 128 emptyHolding v)
 unfolding covers afterLegs full
@@ -165,70 +130,51 @@ rows-long {A} {empty} {good} {rank} {n} {rows} r =
     let counted = r .counted in
     ap length (r .filled) ∙ length-full 128 empty (take n rows) (omega arith)
 
--- The walk over the legs of a book's pairs, with the keys of its rows: it has come to the legs ls.
-pub record Going (rows : List Holding) (held : ℕ) (pairs : List Pair) (paired : ℕ) (highs lows : List ℕ) (ls : List Leg) (free : List Holding) : Type 0 where
-  pub ready : Walkable rows held pairs paired
-  pub keyed : Keyed noRow rows held highs lows
+-- The walk over the legs of a book's pairs, with their rows: it has come to the legs ls.
+pub record Going (rows : List Holding) (held : ℕ) (pairs : List Pair) (paired : ℕ) (firsts seconds : List ℕ) (ls : List Leg) (free : List Holding) : Type 0 where
+  pub ready : Walkable rows held pairs paired firsts seconds
   pub walk : Walking noRow rows held (covers (take held rows) (legsOf (take paired pairs))) (afterLegs (take held rows) (legsOf (take paired pairs))) ls free
 
 -- The walk starts with all rows and at the first pair.
-pub going-starts : {rows : List Holding} {held : ℕ} {pairs : List Pair} {paired : ℕ} {highs lows : List ℕ} → Walkable rows held pairs paired → Keyed noRow rows 128 highs lows → Going rows held pairs paired highs lows (legsOf (drop 0 (take paired pairs))) rows
-going-starts ready keyed =
-    record { ready = ready; keyed = keyed-fewer (ready .holdings-sound .few) keyed; walk = walking-starts noRow _ _ _ (rows-long (ready .holdings-sound)) (ready .holdings-sound .in-order) }
+pub going-starts : {rows : List Holding} {held : ℕ} {pairs : List Pair} {paired : ℕ} {firsts seconds : List ℕ} → Walkable rows held pairs paired firsts seconds → Going rows held pairs paired firsts seconds (legsOf (drop 0 (take paired pairs))) rows
+going-starts ready =
+    record { ready = ready; walk = walking-starts noRow _ _ _ (rows-long (ready .holdings-sound)) (ready .holdings-sound .in-order) }
 
 -- the answer of the walk is that of a book that breaks a rule
 abbrev pub Refused : List Holding → ℕ → List Pair → ℕ → Type 0
 Refused rows held pairs paired = notSound ≡ checkedAs (covered (take held rows) (take paired pairs)) (take held rows) (take paired pairs)
 
-module _ {rows : List Holding} {held : ℕ} {pairs : List Pair} {paired : ℕ} {highs lows : List ℕ} where
-  -- The keys of the rows rise.
-  pub going-rising : {ls : List Leg} {free : List Holding} → Going rows held pairs paired highs lows ls free → Rising highs lows held
-  going-rising g =
-      let r = g .ready .holdings-sound in
-      let long = rows-long r in
-      let few = r .few in
-      rising-keys (g .keyed) (r .all-good) (omega arith) (r .in-order)
-
-  -- A live row is one of 128, and so is a live pair.
-  pub few-rows : {ls : List Leg} {free : List Holding} {r : ℕ} → Going rows held pairs paired highs lows ls free → r < held → r < 128
-  few-rows g lt = let few = g .ready .holdings-sound .few in omega arith
-
-  pub few-pairs : {ls : List Leg} {free : List Holding} {j : ℕ} → Going rows held pairs paired highs lows ls free → j < paired → j < 128
+module _ {rows : List Holding} {held : ℕ} {pairs : List Pair} {paired : ℕ} {firsts seconds : List ℕ} where
+  -- A live pair is one of 128, and so are the rows of its legs.
+  pub few-pairs : {ls : List Leg} {free : List Holding} {j : ℕ} → Going rows held pairs paired firsts seconds ls free → j < paired → j < 128
   few-pairs g lt = let few = g .ready .pairs-sound .few in omega arith
 
-  -- A leg whose place is behind the rows or is another's row ends the walk; so does one whose row has too little; else it takes its lots.
-  module _ {leg : Leg} {ls : List Leg} {free : List Holding} {r : ℕ} (g : Going rows held pairs paired highs lows (leg ∷ ls) free) (good : goodSeries (leg .series) ≡ true) (some : 1 ≤ leg .lots) (place : PlaceIs highs lows held (halves (leg .series)) r) where
-    other-row : (r < held → sameSeries (getD free r noRow .series) (leg .series) ≡ false) → false ≡ covers (take held rows) (legsOf (take paired pairs))
-    other-row other =
-        let h = g .ready .holdings-sound in
-        let few = h .few in
-        let long = rows-long h in
-        leg-absent few (g .walk) some (leg-nowhere few (g .walk) (g .keyed) (h .all-good) (omega arith) good place other)
+  pub few-firsts : {ls : List Leg} {free : List Holding} {j : ℕ} → Going rows held pairs paired firsts seconds ls free → j < paired → getD firsts j 0 < 128
+  few-firsts g lt = let few = g .ready .holdings-sound .few in let row = g .ready .first-rows _ lt .0 in omega arith
 
-    leg-behind : held ≤ r → Refused rows held pairs paired
-    leg-behind le = uncovered (take held rows) (take paired pairs) (other-row (λ lt. absurd (omega arith)))
+  pub few-seconds : {ls : List Leg} {free : List Holding} {j : ℕ} → Going rows held pairs paired firsts seconds ls free → j < paired → getD seconds j 0 < 128
+  few-seconds g lt = let few = g .ready .holdings-sound .few in let row = g .ready .second-rows _ lt .0 in omega arith
 
-    module _ {t : Taken} (lt : r < held) (is : t ≡ takenLots (getD free r noRow) (leg .series) (leg .side) (leg .lots)) where
-      leg-lacks : not (t .enough) ≡ true → Refused rows held pairs paired
-      leg-lacks e =
-          uncovered (take held rows) (take paired pairs)
-          (by-test (λ (x : Bool). sameSeries (getD free r noRow .series) (leg .series) ≡ x → both x (leb (leg .lots) (lotsOn (leg .side) (getD free r noRow))) ≡ false → false ≡ covers (take held rows) (legsOf (take paired pairs))) (sameSeries (getD free r noRow .series) (leg .series))
-          (λ q same few. leg-short (g .ready .holdings-sound .few) (g .walk) r lt same (leb-false (leg .lots) _ few))
-          (λ q other few. other-row (λ z. other))
-          refl
-          (failed (ap (λ (z : Taken). z .enough) is) e))
+  -- A leg whose row has too little ends the walk; else it takes its lots.
+  module _ {leg : Leg} {ls : List Leg} {free : List Holding} {r : ℕ} (g : Going rows held pairs paired firsts seconds (leg ∷ ls) free) (row : (r < held) × (getD rows r noRow .series ≡ leg .series)) {t : Taken} (is : t ≡ takenLots (getD free r noRow) (leg .side) (leg .lots)) where
+    own-row : sameSeries (getD free r noRow .series) (leg .series) ≡ true
+    unfolding holdingRank
+    own-row = rank-same (getD free r noRow) (leg .series) (g .walk .ranks r (row .0) ∙ ap seriesRank (row .1))
 
-      leg-takes : not (t .enough) ≡ false → Going rows held pairs paired highs lows ls (set free r (t .row))
-      leg-takes e =
-          let h = both-true (sameSeries (getD free r noRow .series) (leg .series)) _ (passed (ap (λ (z : Taken). z .enough) is) e) in
-          record {
-            ready = g .ready;
-            keyed = g .keyed;
-            walk = rw (ap (λ (z : Taken). z .row) is) (leg-taken (g .ready .holdings-sound .few) (g .walk) r lt (h .0) (leb-true (leg .lots) _ (h .1)));
-          }
+    leg-lacks : not (t .enough) ≡ true → Refused rows held pairs paired
+    leg-lacks e =
+        uncovered (take held rows) (take paired pairs)
+        (leg-short (g .ready .holdings-sound .few) (g .walk) r (row .0) own-row (leb-false (leg .lots) _ (failed (ap (λ (z : Taken). z .enough) is) e)))
+
+    leg-takes : not (t .enough) ≡ false → Going rows held pairs paired firsts seconds ls (set free r (t .row))
+    leg-takes e =
+        record {
+          ready = g .ready;
+          walk = rw (ap (λ (z : Taken). z .row) is) (leg-taken (g .ready .holdings-sound .few) (g .walk) r (row .0) own-row (leb-true (leg .lots) _ (passed (ap (λ (z : Taken). z .enough) is) e)));
+        }
 
   -- The walk is at the pair j.
-  module _ {j : ℕ} {free : List Holding} (g : Going rows held pairs paired highs lows (legsOf (drop j (take paired pairs))) free) (lt : j < paired) where
+  module _ {j : ℕ} {free : List Holding} (g : Going rows held pairs paired firsts seconds (legsOf (drop j (take paired pairs))) free) (lt : j < paired) where
     inside-pairs : j < length (take paired pairs)
     inside-pairs = let counted = g .ready .pairs-sound .counted in omega arith
 
@@ -245,45 +191,35 @@ module _ {rows : List Holding} {held : ℕ} {pairs : List Pair} {paired : ℕ} {
     unfolding legsOf
     pair-legs = rw (drop-cons (take paired pairs) j noPair inside-pairs, getD-take paired pairs j noPair lt, add-one j)
 
-    at-first : Going rows held pairs paired highs lows (firstLeg (getD pairs j noPair) ∷ secondLeg (getD pairs j noPair) ∷ legsOf (drop (j + 1) (take paired pairs))) free
-    at-first = subst (λ (ls : List Leg). Going rows held pairs paired highs lows ls free) pair-legs g
+    at-first : Going rows held pairs paired firsts seconds (firstLeg (getD pairs j noPair) ∷ secondLeg (getD pairs j noPair) ∷ legsOf (drop (j + 1) (take paired pairs))) free
+    at-first = subst (λ (ls : List Leg). Going rows held pairs paired firsts seconds ls free) pair-legs g
 
-    -- What the first leg finds: no row, too little, or its lots.
-    module _ {x : ℕ} (place : PlaceIs highs lows held (halves (getD pairs j noPair .first)) x) where
-      pub first-behind : held ≤ x → Refused rows held pairs paired
+    -- What the first leg finds: too little, or its lots.
+    module _ {side : Side} {s : Taken} (side-is : side ≡ firstSide (getD pairs j noPair .kind) (getD pairs j noPair .second)) (is : s ≡ takenLots (getD free (getD firsts j 0) noRow) side (getD pairs j noPair .r1 * getD pairs j noPair .units)) where
+      pub first-lacks : not (s .enough) ≡ true → Refused rows held pairs paired
       unfolding firstLeg
-      first-behind le = leg-behind at-first (pair-good .first-good) (pair-counts .some-lots1) place le
+      first-lacks e = leg-lacks at-first (g .ready .first-rows j lt) (rw side-is at is) e
 
-      module _ {side : Side} {s : Taken} (at : x < held) (side-is : side ≡ firstSide (getD pairs j noPair .kind) (getD pairs j noPair .second)) (is : s ≡ takenLots (getD free x noRow) (getD pairs j noPair .first) side (getD pairs j noPair .r1 * getD pairs j noPair .units)) where
-        pub first-lacks : not (s .enough) ≡ true → Refused rows held pairs paired
+      -- and when it has its lots, what the second finds
+      module _ (has : not (s .enough) ≡ false) where
+        at-second : Going rows held pairs paired firsts seconds (secondLeg (getD pairs j noPair) ∷ legsOf (drop (j + 1) (take paired pairs))) (set free (getD firsts j 0) (s .row))
         unfolding firstLeg
-        first-lacks e = leg-lacks at-first (pair-good .first-good) (pair-counts .some-lots1) place at (rw side-is at is) e
+        at-second = leg-takes at-first (g .ready .first-rows j lt) (rw side-is at is) has
 
-        -- and when it has its lots, what the second finds
-        module _ (has : not (s .enough) ≡ false) where
-          at-second : Going rows held pairs paired highs lows (secondLeg (getD pairs j noPair) ∷ legsOf (drop (j + 1) (take paired pairs))) (set free x (s .row))
-          unfolding firstLeg
-          at-second = leg-takes at-first (pair-good .first-good) (pair-counts .some-lots1) place at (rw side-is at is) has
+        module _ {side2 : Side} {t : Taken} (side2-is : side2 ≡ secondSide (getD pairs j noPair .kind)) (is2 : t ≡ takenLots (getD (set free (getD firsts j 0) (s .row)) (getD seconds j 0) noRow) side2 (getD pairs j noPair .r2 * getD pairs j noPair .units)) where
+          pub second-lacks : not (t .enough) ≡ true → Refused rows held pairs paired
+          unfolding secondLeg
+          second-lacks e = leg-lacks at-second (g .ready .second-rows j lt) (rw side2-is at is2) e
 
-          module _ {y : ℕ} (place2 : PlaceIs highs lows held (halves (getD pairs j noPair .second)) y) where
-            pub second-behind : held ≤ y → Refused rows held pairs paired
-            unfolding secondLeg
-            second-behind le = leg-behind at-second (pair-good .second-good) (pair-counts .some-lots2) place2 le
-
-            module _ {side2 : Side} {t : Taken} (at2 : y < held) (side2-is : side2 ≡ secondSide (getD pairs j noPair .kind)) (is2 : t ≡ takenLots (getD (set free x (s .row)) y noRow) (getD pairs j noPair .second) side2 (getD pairs j noPair .r2 * getD pairs j noPair .units)) where
-              pub second-lacks : not (t .enough) ≡ true → Refused rows held pairs paired
-              unfolding secondLeg
-              second-lacks e = leg-lacks at-second (pair-good .second-good) (pair-counts .some-lots2) place2 at2 (rw side2-is at is2) e
-
-              pub pair-takes : not (t .enough) ≡ false → Going rows held pairs paired highs lows (legsOf (drop (j + 1) (take paired pairs))) (set (set free x (s .row)) y (t .row))
-              unfolding secondLeg
-              pair-takes e = leg-takes at-second (pair-good .second-good) (pair-counts .some-lots2) place2 at2 (rw side2-is at is2) e
+          pub pair-takes : not (t .enough) ≡ false → Going rows held pairs paired firsts seconds (legsOf (drop (j + 1) (take paired pairs))) (set (set free (getD firsts j 0) (s .row)) (getD seconds j 0) (t .row))
+          unfolding secondLeg
+          pair-takes e = leg-takes at-second (g .ready .second-rows j lt) (rw side2-is at is2) e
 
   -- Behind the last pair every leg has found its lots.
-  pub going-ends : {j : ℕ} {free : List Holding} → Going rows held pairs paired highs lows (legsOf (drop j (take paired pairs))) free → paired ≤ j → record { sound = true; free = free } ≡ checkedAs (covered (take held rows) (take paired pairs)) (take held rows) (take paired pairs)
+  pub going-ends : {j : ℕ} {free : List Holding} → Going rows held pairs paired firsts seconds (legsOf (drop j (take paired pairs))) free → paired ≤ j → record { sound = true; free = free } ≡ checkedAs (covered (take held rows) (take paired pairs)) (take held rows) (take paired pairs)
   unfolding legsOf
   going-ends {j} {free} g le =
       let counted = g .ready .pairs-sound .counted in
       let behind : length (take paired pairs) ≤ j = omega arith in
       let none : drop j (take paired pairs) ≡ [] = drop-of-length-le (take paired pairs) behind in
-      all-covered-as (take held rows) (take paired pairs) (walking-ends (g .ready .holdings-sound) (subst (λ (ps : List Pair). Going rows held pairs paired highs lows (legsOf ps) free) none g .walk))
+      all-covered-as (take held rows) (take paired pairs) (walking-ends (g .ready .holdings-sound) (subst (λ (ps : List Pair). Going rows held pairs paired firsts seconds (legsOf ps) free) none g .walk))

@@ -1,16 +1,23 @@
-// Whether a book is sound, and its free lots: leg after leg of the pairs takes its lots from its row, found by halving.
+// Whether a book is sound, and its free lots: one walk over its rows, one over its pairs, whose legs find their rows by halving, and one in
+// which leg after leg takes its lots from its row.
 ghost use mathlib.Core.Path.{_≡_};
+ghost use mathlib.Core.Bool.{true, false};
+ghost use mathlib.Core.List.{[], _∷_};
+ghost use Prim.Native.Nat.{_-_, _<_, _≤_};
+ghost use lib.Dec.{eqb};
 ghost use lib.ListN.{take};
-ghost use Rattle.laws.specs.Truth.{both};
+ghost use Rattle.laws.specs.Truth.{both, either};
+ghost use Rattle.laws.specs.Order.{isLess, bytesOrder};
 ghost use Rattle.dates.specs.Calendar.{isDay};
+ghost use Rattle.series.specs.Checks.{goodSeries};
 ghost use Rattle.rules.specs.Lots.{covered};
-ghost use Rattle.rules.specs.Rules.{accountFits, isIdentity, soundBook};
+ghost use Rattle.rules.specs.Rules.{accountFits, isIdentity, goodHolding, soundBook};
 ghost use Rattle.sound.specs.Checked.{notSound, checkedAs, checkedBook};
-ghost use Rattle.halving.specs.Halving.{Rising, PlaceIs};
-ghost use Rattle.sound.specs.Walk.{noRow, halves, Keyed, Walkable, takenLots};
+ghost use Rattle.sound.specs.Walk.{goodLots, alike, standing, KeysAre, LegKey, LegRow, LegRows, PlacesAre, RoomIs, Walkable, takenLots};
 use rows::Book;
 use rows::Holding;
 use rows::Pair;
+use series::Halves;
 use series::Series;
 use series::Side;
 
@@ -20,51 +27,269 @@ pub struct Checked {
     pub free: [Holding; 128],
 }
 
-// The keys of the rows, half by half.
+// Whether the rows are good and in order, and their keys, half by half.
 struct Keys {
+    sound: bool,
     highs: [u64; 128],
     lows: [u64; 128],
 }
 
-// Whether a row is the one of a leg and has its lots, and what is left of it then.
+// Whether a pair may stand and both its legs are held, and the rows of its legs.
+struct Legs {
+    kept: bool,
+    first: usize,
+    second: usize,
+}
+
+// Whether every pair may stand, is held and is in order, and the rows of their legs.
+struct Places {
+    sound: bool,
+    firsts: [usize; 128],
+    seconds: [usize; 128],
+}
+
+// Whether a row has the lots of a leg, and what is left of it then.
 struct Taken {
     enough: bool,
     row: Holding,
 }
 
-fn keys_of(rows: [Holding; 128]) -> Keys
-    ensures { λ r. ⌜ Keyed noRow rows 128 (r .highs) (r .lows) ⌝ }
+fn wide8(x: u8) -> u64
+    ensures { λ r. ⌜ (r ≡ x) × (r < 256) ⌝ }
+{
+    x as u64
+}
+
+fn wide32(x: u32) -> u64
+    ensures { λ r. ⌜ (r ≡ x) × (r < 4294967296) ⌝ }
+{
+    x as u64
+}
+
+// The row before a row, or the first.
+fn before(i: usize) -> usize
+    ensures { λ r. ⌜ r ≡ i - 1 ⌝ }
+{
+    if i == 0 { 0 } else { i - 1 }
+}
+
+// Whether a holding's lots are in their range, and are some.
+fn lots_good(h: Holding) -> bool
+    ensures { λ r. ⌜ r ≡ goodLots h ⌝ }
+{
+    let some = !rows::no_lots(h);
+    laws::and(h.long <= 100000, laws::and(h.short <= 100000, some))
+}
+
+// Whether two series are options of one code and date, the second with its strike in range: then it is good if the first is.
+fn is_alike(a: Series, b: Series) -> bool
+    ensures { λ r. ⌜ r ≡ alike a b ⌝ }
+{
+    let x = a.code;
+    let y = b.code;
+    let m = a.nature;
+    let n = b.nature;
+    let one = laws::and(codes::same_code(x, y), a.date == b.date);
+    let options = laws::and(!series::is_future(m), !series::is_future(n));
+    let fits = laws::in_range(1, 100000000, series::strike_of(n));
+    laws::and(one, laws::and(options, fits))
+}
+
+// Whether the row i is good, where the row before it is.
+fn good_row(i: usize, last: Holding, h: Holding) -> bool
+    requires { ⌜ (0 < i → goodSeries (last .series) ≡ true) ⌝ }
+    ensures { λ r. ⌜ r ≡ goodHolding h ⌝ }
+{
+    let a = last.series;
+    let s = h.series;
+    if laws::and(0 < i, is_alike(a, s)) {
+        return lots_good(h);
+    }
+    rules::good_holding(h)
+}
+
+// Whether the row i of a key stands after the row before it.
+fn key_rises(i: usize, high: u64, low: u64, k: Halves) -> bool
+    ensures { λ r. ⌜ r ≡ either (eqb i 0) (isLess (bytesOrder (high ∷ low ∷ []) (k .high ∷ k .low ∷ []))) ⌝ }
+{
+    if i == 0 {
+        return true;
+    }
+    if high != k.high {
+        return high < k.high;
+    }
+    low < k.low
+}
+
+// One walk over the rows: each is good, and its key is after that of the row before it.
+fn keys_of(rows: [Holding; 128], held: usize) -> Keys
+    requires { ⌜ held ≤ 128 ⌝ }
+    ensures { λ r. ⌜ KeysAre rows held r ⌝ }
 {
     let mut highs = [0u64; 128];
     let mut lows = [0u64; 128];
     let mut i: usize = 0;
-    while i < 128 {
+    while i < held {
+        let b = before(i);
+        let last = rows[b];
         let h = rows[i];
+        if !good_row(i, last, h) {
+            return Keys {
+                sound: false,
+                highs,
+                lows,
+            };
+        }
         let s = h.series;
         let k = series::halves_of(s);
+        if !key_rises(i, highs[b], lows[b], k) {
+            return Keys {
+                sound: false,
+                highs,
+                lows,
+            };
+        }
         highs[i] = k.high;
         lows[i] = k.low;
         i += 1;
     }
-    Keys { highs, lows }
+    Keys {
+        sound: true,
+        highs,
+        lows,
+    }
 }
 
-// The first of the `held` rows whose key is not before that of the series, by halving.
-fn place_of<'a>(highs: &'a [u64], lows: &'a [u64], held: usize, s: Series) -> usize
-    requires { ⌜ Rising (now highs) (now lows) held ⌝ }
-    ensures { λ r. ⌜ PlaceIs (now (highs .entry)) (now (lows .entry)) held (halves s) r ⌝ }
+// The key of a leg, half by half.
+fn leg_key(s: Series) -> Halves
+    ensures { λ r. ⌜ LegKey s r ⌝ }
 {
-    let k = series::halves_of(s);
-    halving::place_of(highs, lows, held, k.high, k.low)
+    let c = s.code;
+    let n = s.nature;
+    let code = (wide8(c[0]) * 256 + wide8(c[1])) * 256 + wide8(c[2]);
+    let letter = wide8(series::letter_of(n));
+    Halves {
+        high: code * 4294967296 + wide32(s.date),
+        low: letter * 4294967296 + wide32(series::strike_of(n)),
+    }
 }
 
-fn take_lots(h: Holding, s: Series, side: Side, lots: u32) -> Taken
-    ensures { λ r. ⌜ r ≡ takenLots h s side lots ⌝ }
+// The row of a leg, by halving; `held` where there is none.
+fn row_of<'a>(highs: &'a [u64], lows: &'a [u64], held: usize, s: Series) -> usize
+    ensures { λ r. ⌜ LegRow (now (highs .entry)) (now (lows .entry)) held s r ⌝ }
 {
-    let t = h.series;
-    let same = rows::same_series(t, s);
+    let k = leg_key(s);
+    halving::find(highs, lows, held, k.high, k.low)
+}
+
+// Whether a pair's counts are in range and its kind's rule is met.
+fn stands(p: Pair) -> bool
+    ensures { λ r. ⌜ r ≡ standing p ⌝ }
+{
+    let a = p.first;
+    let b = p.second;
+    if !rules::counts_fit(p.r1, p.r2, p.units) {
+        return false;
+    }
+    pairing::may_stand(p.kind, a, b, p.r1, p.r2)
+}
+
+// The rows of a pair's legs.
+fn legs_of<'a>(highs: &'a [u64], lows: &'a [u64], held: usize, p: Pair) -> Legs
+    ensures { λ r. ⌜ LegRows (now (highs .entry)) (now (lows .entry)) held p r ⌝ }
+{
+    let a = p.first;
+    let b = p.second;
+    if !stands(p) {
+        return Legs {
+            kept: false,
+            first: 0,
+            second: 0,
+        };
+    }
+    let first = row_of(highs, lows, held, a);
+    let second = row_of(highs, lows, held, b);
+    Legs {
+        kept: laws::and(first < held, second < held),
+        first,
+        second,
+    }
+}
+
+// Whether the pair i stands after the pair before it: by kind, the rows of its legs, r1, r2.
+fn pair_rises(i: usize, p: Pair, x: usize, y: usize, q: Pair, at: Legs) -> bool
+    ensures { λ r. ⌜ r ≡ either (eqb i 0) (isLess (bytesOrder (p .kind ∷ x ∷ y ∷ p .r1 ∷ p .r2 ∷ []) (q .kind ∷ at .first ∷ at .second ∷ q .r1 ∷ q .r2 ∷ []))) ⌝ }
+{
+    if i == 0 {
+        return true;
+    }
+    if p.kind != q.kind {
+        return p.kind < q.kind;
+    }
+    if x != at.first {
+        return x < at.first;
+    }
+    if y != at.second {
+        return y < at.second;
+    }
+    if p.r1 != q.r1 {
+        return p.r1 < q.r1;
+    }
+    p.r2 < q.r2
+}
+
+// The answer where a pair may not stand, has no rows or is out of order.
+fn no_places(firsts: [usize; 128], seconds: [usize; 128]) -> Places
+    ensures { λ r. ⌜ r ≡ record { sound = false; firsts = firsts; seconds = seconds } ⌝ }
+{
+    Places {
+        sound: false,
+        firsts,
+        seconds,
+    }
+}
+
+// One walk over the pairs: each may stand, has its rows, and is after the pair before it.
+fn places_of<'a>(
+    highs: &'a [u64],
+    lows: &'a [u64],
+    held: usize,
+    pairs: [Pair; 128],
+    paired: usize,
+) -> Places
+    requires { ⌜ paired ≤ 128 ⌝ }
+    ensures { λ r. ⌜ PlacesAre (now (highs .entry)) (now (lows .entry)) held pairs paired r ⌝ }
+{
+    let mut firsts = [0usize; 128];
+    let mut seconds = [0usize; 128];
+    let mut i: usize = 0;
+    while i < paired {
+        let b = before(i);
+        let last = pairs[b];
+        let p = pairs[i];
+        let at = legs_of(highs, lows, held, p);
+        if !at.kept {
+            return no_places(firsts, seconds);
+        }
+        if !pair_rises(i, last, firsts[b], seconds[b], p, at) {
+            return no_places(firsts, seconds);
+        }
+        firsts[i] = at.first;
+        seconds[i] = at.second;
+        i += 1;
+    }
+    Places {
+        sound: true,
+        firsts,
+        seconds,
+    }
+}
+
+fn take_lots(h: Holding, side: Side, lots: u32) -> Taken
+    ensures { λ r. ⌜ r ≡ takenLots h side lots ⌝ }
+{
     Taken {
-        enough: laws::and(same, lots <= rows::lots_on(side, h)),
+        enough: lots <= rows::lots_on(side, h),
         row: rows::lessen(side, lots, h),
     }
 }
@@ -81,36 +306,33 @@ fn unsound() -> Checked
 }
 
 // Leg after leg of the pairs takes its lots from its row; what is left are the free lots.
-fn free_lots(rows: [Holding; 128], held: usize, pairs: [Pair; 128], paired: usize) -> Checked
-    requires { ⌜ Walkable rows held pairs paired ⌝ }
+fn free_lots(
+    rows: [Holding; 128],
+    held: usize,
+    pairs: [Pair; 128],
+    paired: usize,
+    firsts: [usize; 128],
+    seconds: [usize; 128],
+) -> Checked
+    requires { ⌜ Walkable rows held pairs paired firsts seconds ⌝ }
     ensures { λ r. ⌜ r ≡ checkedAs (covered (take held rows) (take paired pairs)) (take held rows) (take paired pairs) ⌝ }
 {
-    let keys = keys_of(rows);
-    let highs = keys.highs;
-    let lows = keys.lows;
     let mut free = rows;
     let mut j: usize = 0;
     while j < paired {
         let p = pairs[j];
-        let a = p.first;
         let b = p.second;
-        let x = place_of(&highs, &lows, held, a);
-        if held <= x {
-            return unsound();
-        }
+        let x = firsts[j];
         let h = free[x];
-        let s = take_lots(h, a, pairing::first_side(p.kind, b), p.r1 * p.units);
+        let s = take_lots(h, pairing::first_side(p.kind, b), p.r1 * p.units);
         if !s.enough {
             return unsound();
         }
         let less = s.row;
         free[x] = less;
-        let y = place_of(&highs, &lows, held, b);
-        if held <= y {
-            return unsound();
-        }
+        let y = seconds[j];
         let k = free[y];
-        let t = take_lots(k, b, pairing::second_side(p.kind), p.r2 * p.units);
+        let t = take_lots(k, pairing::second_side(p.kind), p.r2 * p.units);
         if !t.enough {
             return unsound();
         }
@@ -131,6 +353,22 @@ fn head_sound(account: u32, identity: u8, day: u32) -> bool
     )
 }
 
+// Whether there is room for the rows, and the room behind them is empty.
+fn room_sound(holdings: [Holding; 128], held: usize, pairs: [Pair; 128], paired: usize) -> bool
+    ensures { λ r. ⌜ RoomIs holdings held pairs paired r ⌝ }
+{
+    if 128 < held {
+        return false;
+    }
+    if 128 < paired {
+        return false;
+    }
+    if !rules::holdings_end(holdings, held) {
+        return false;
+    }
+    rules::pairs_end(pairs, paired)
+}
+
 // Whether a book keeps every rule, and its free lots.
 pub fn checked_book(b: Book) -> Checked
     ensures { λ r. ⌜ r ≡ checkedBook b ⌝ }
@@ -140,13 +378,22 @@ pub fn checked_book(b: Book) -> Checked
     if !head_sound(b.account, b.identity, b.day) {
         return unsound();
     }
-    if !rules::holdings_sound(holdings, b.held) {
+    if !room_sound(holdings, b.held, pairs, b.paired) {
         return unsound();
     }
-    if !rules::pairs_sound(pairs, b.paired) {
+    let keys = keys_of(holdings, b.held);
+    if !keys.sound {
         return unsound();
     }
-    free_lots(holdings, b.held, pairs, b.paired)
+    let highs = keys.highs;
+    let lows = keys.lows;
+    let places = places_of(&highs, &lows, b.held, pairs, b.paired);
+    if !places.sound {
+        return unsound();
+    }
+    let firsts = places.firsts;
+    let seconds = places.seconds;
+    free_lots(holdings, b.held, pairs, b.paired, firsts, seconds)
 }
 
 // Whether a book keeps every rule.

@@ -102,17 +102,21 @@ module _ (book sheet : List ℕ) (s : Statement) (is : s ≡ statementOf (statem
   pub line-counts : s .length ≡ length (take (s .length) (s .text))
   line-counts = sym (length-take-le (s .length) (s .text) line-inside)
 
--- The three ways through the two texts.
+-- The two ways through a margin, and the two through a book's text.
+module _ (b : Book) (m : Margin) where
+  pub line-refused : (m .number ≡ 0 → ⊥) → statementOf (refusalText (m .number) (m .line)) ≡ statementOf (marginLineText b m)
+  unfolding marginLineText
+  line-refused h = ap statementOf (simp (ne-eqb _ _ h))
+
+  pub line-stated : m .number ≡ 0 → statementOf (resultText (b .account) (b .day) (m .levels)) ≡ statementOf (marginLineText b m)
+  unfolding marginLineText
+  line-stated h = ap statementOf (simp (eq-eqb _ _ h))
+
 module _ (book sheet : List ℕ) (a : Answer) (read : a ≡ readText book) where
   pub book-refused : (a .number ≡ 0 → ⊥) → statementOf (refusalText (a .number) (a .line)) ≡ statementOf (statementText book sheet)
   unfolding statementText readLineText
   book-refused h = ap statementOf (rw (← read) (simp (ne-eqb _ _ h)))
 
-  module _ (m : Margin) (due : m ≡ marginText (a .book) sheet) (sound : a .number ≡ 0) where
-    pub margin-refused : (m .number ≡ 0 → ⊥) → statementOf (refusalText (m .number) (m .line)) ≡ statementOf (statementText book sheet)
-    unfolding statementText readLineText marginLineText
-    margin-refused h = ap statementOf (rw (← read) (simp (eq-eqb _ _ sound) (rw (← due) (simp (ne-eqb _ _ h)))))
-
-    pub margin-stated : m .number ≡ 0 → statementOf (resultText (a .book .account) (a .book .day) (m .levels)) ≡ statementOf (statementText book sheet)
-    unfolding statementText readLineText marginLineText
-    margin-stated h = ap statementOf (rw (← read) (simp (eq-eqb _ _ sound) (rw (← due) (simp (eq-eqb _ _ h)))))
+  pub book-stated : (m : Margin) → m ≡ marginText (a .book) sheet → a .number ≡ 0 → statementOf (marginLineText (a .book) m) ≡ statementOf (statementText book sheet)
+  unfolding statementText readLineText
+  book-stated m due sound = ap statementOf (rw (← read) (simp (eq-eqb _ _ sound) (rw (← due))))

@@ -4,8 +4,10 @@ ghost use mathlib.Core.List.{[], _∷_};
 ghost use Rattle.put.specs.Put.{laid, endOf};
 ghost use Rattle.digits.specs.Digits.{fixed, numerals};
 ghost use Rattle.lines.specs.Texts.{tabbed};
-ghost use Rattle.statement.specs.Statement.{resultText, refusalText, statementOf, statementText};
+ghost use Rattle.statement.specs.Statement.{resultText, refusalText, marginLineText, statementOf, statementText};
+use account::Margin;
 use levels::Levels;
+use rows::Book;
 
 // A line: its bytes, then zeros, and how many they are.
 pub struct Statement {
@@ -66,6 +68,17 @@ pub fn refusal(number: u8, line: u32) -> Statement
     Statement { text, length }
 }
 
+// The line of a margin call on a book.
+pub fn line_of(b: Book, m: Margin) -> Statement
+    ensures { λ r. ⌜ r ≡ statementOf (marginLineText b m) ⌝ }
+{
+    if m.number != 0 {
+        return refusal(m.number, m.line);
+    }
+    let levels = m.levels;
+    result(b.account, b.day, levels)
+}
+
 // The line of a book's text and a sheet's.
 pub fn state(book: &[u8], sheet: &[u8]) -> Statement
     ensures { λ r. ⌜ r ≡ statementOf (statementText (now (book .entry)) (now (sheet .entry))) ⌝ }
@@ -75,10 +88,5 @@ pub fn state(book: &[u8], sheet: &[u8]) -> Statement
         return refusal(read.number, read.line);
     }
     let b = read.book;
-    let m = account::margin_of(b, sheet);
-    if m.number != 0 {
-        return refusal(m.number, m.line);
-    }
-    let levels = m.levels;
-    result(b.account, b.day, levels)
+    line_of(b, account::margin_of(b, sheet))
 }

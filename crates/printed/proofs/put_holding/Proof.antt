@@ -1,16 +1,16 @@
 use borrow.Author.Needs.{needs}
-use Rattle.put.specs.PutLaws.{put-is, put-says}
-use Rattle.printed.specs.PrintedLaws.{fields-then, line-laid}
+use Rattle.printed.specs.PrintedLaws.{holding-fits}
 use Rattle.printed.specs.Printed.{holdingText}
+use Rattle.printed.specs.PlacedLaws.{fields-placed, line-placed}
 use Rattle.printed.proofs.put_holding.Statement.{statement}
 use Rattle.printed.proofs.put_holding.Tie as tie
 
 returns : tie.Need-returns
 unfolding holdingText
 returns c =
-    put-says (line-laid _ (put-is (c .before .before .before .before .before .before .before .before .before .before .before .before .before .before .before .before .before .before .put-byte .ensures))
-    (fields-then _ _ (put-is (c .before .before .before .before .before .before .before .before .before .before .before .before .before .before .put-series .ensures)) (fields-then _ _ (put-is (c .before .before .before .before .before .before .before .before .before .before .put-figure .ensures)) (put-is (c .before .before .before .before .before .before .put-figure2 .ensures))))
-    (put-is (c .before .before .put-byte2 .ensures)))
+    line-placed _ (holding-fits _ (c .before .before .before .before .before .before .before .before .before .before .before .before .before .before .before .before .before .before .before .before .before .before .pre .0)) (c .before .before .before .before .before .before .before .before .before .before .before .before .before .before .before .before .before .before .put-byte .ensures)
+    (fields-placed _ _ (c .before .before .before .before .before .before .before .before .before .before .before .before .before .before .put-series .ensures) (fields-placed _ _ (c .before .before .before .before .before .before .before .before .before .before .put-figure .ensures) (c .before .before .before .before .before .before .put-figure2 .ensures)))
+    (c .before .before .put-byte2 .ensures)
 
 pub put-holding-spec : {M : Type 1} → statement M
 put-holding-spec =

@@ -8,8 +8,8 @@ use Rattle.sheets.proofs.empty_sheet.Tie as tie
 
 returns : tie.Need-returns
 unfolding laidOut noRows full futureCodes optionCodes clearingIn indexIn firstWhere
-returns c = rw (c .no-stock .ensures, c .before .no-index .ensures, c .before .before .no-amount .ensures)
+returns c = rw (c .no-price .ensures, c .before .no-stock .ensures, c .before .before .no-index .ensures, c .before .before .before .no-amount .ensures)
 
 pub empty-sheet-spec : {M : Type 1} → statement M
 empty-sheet-spec =
-    tie.close (tie.spec (λ c κs. search needs) (λ c κs. search needs) (λ c κs. search needs) returns)
+    tie.close (tie.spec (λ c κs. search needs) (λ c κs. search needs) (λ c κs. search needs) (λ c κs. search needs) returns)

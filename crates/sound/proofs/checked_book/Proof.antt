@@ -1,7 +1,8 @@
-use mathlib.Core.Path.{_∙_}
-use borrow.Author.Needs.{needs}
+use Rattle.sound.specs.CheckedLaws.{head-broken, room-broken, few-held, few-paired, rows-broken, legs-broken, walkable, walk-decides}
 use Rattle.laws.specs.TruthLaws.{failed, passed}
-use Rattle.sound.specs.CheckedLaws.{head-broken, holdings-broken, pairs-broken, lots-decide, walkable}
+use mathlib.Core.Path.{_∙_}
+use native.Mathlib.Omega.{arith}
+use borrow.Author.Needs.{needs}
 use Rattle.sound.proofs.checked_book.Statement.{statement}
 use Rattle.sound.proofs.checked_book.Tie as tie
 
@@ -9,16 +10,25 @@ returns : tie.Need-returns
 returns c = c .unsound .ensures ∙ head-broken _ (failed (c .before .before .head-sound .ensures) (c .before .if1 .taken))
 
 returns-2 : tie.Need-returns-2
-returns-2 c = c .unsound2 .ensures ∙ holdings-broken _ (passed (c .before .before .before .before .head-sound .ensures) (c .before .before .before .if1 .left)) (failed (c .before .before .holdings-sound .ensures) (c .before .if2 .taken))
+returns-2 c = c .unsound2 .ensures ∙ room-broken _ (passed (c .before .before .before .before .head-sound .ensures) (c .before .before .before .if1 .left)) (c .before .before .room-sound .ensures) (c .before .if2 .taken)
+
+keys-of-requires : tie.Need-keys-of-requires
+keys-of-requires c κs = few-held (c .before .before .before .before .before .before .args .b) (passed (c .before .before .before .head-sound .ensures) (c .before .before .if1 .left)) (c .before .room-sound .ensures) (c .if2 .left)
 
 returns-3 : tie.Need-returns-3
-returns-3 c = c .unsound3 .ensures ∙ pairs-broken _ (passed (c .before .before .before .before .before .before .head-sound .ensures) (c .before .before .before .before .before .if1 .left)) (passed (c .before .before .before .before .holdings-sound .ensures) (c .before .before .before .if2 .left)) (failed (c .before .before .pairs-sound .ensures) (c .before .if3 .taken))
+returns-3 c = c .unsound3 .ensures ∙ rows-broken _ (passed (c .before .before .before .before .before .before .before .head-sound .ensures) (c .before .before .before .before .before .before .if1 .left)) (c .before .before .before .before .before .room-sound .ensures) (c .before .before .before .before .if2 .left) (c .before .before .before .keys-of .ensures) (c .before .if3 .taken)
 
-free-lots-requires : tie.Need-free-lots-requires
-free-lots-requires c κs = walkable (passed (c .before .before .before .holdings-sound .ensures) (c .before .before .if2 .left)) (passed (c .before .pairs-sound .ensures) (c .if3 .left))
+places-of-requires : tie.Need-places-of-requires
+places-of-requires c κs = few-paired (c .before .before .before .before .before .before .before .before .before .before .before .before .before .args .b) (passed (c .before .before .before .before .before .before .before .before .before .before .head-sound .ensures) (c .before .before .before .before .before .before .before .before .before .if1 .left)) (c .before .before .before .before .before .before .before .before .room-sound .ensures) (c .before .before .before .before .before .before .before .if2 .left)
 
 returns-4 : tie.Need-returns-4
-returns-4 c = lots-decide _ (passed (c .before .before .before .before .before .before .head-sound .ensures) (c .before .before .before .before .before .if1 .left)) (passed (c .before .before .before .before .holdings-sound .ensures) (c .before .before .before .if2 .left)) (passed (c .before .before .pairs-sound .ensures) (c .before .if3 .left)) (c .free-lots .ensures)
+returns-4 c = c .unsound4 .ensures ∙ legs-broken _ (passed (c .before .before .before .before .before .before .before .before .before .before .before .before .before .before .head-sound .ensures) (c .before .before .before .before .before .before .before .before .before .before .before .before .before .if1 .left)) (c .before .before .before .before .before .before .before .before .before .before .before .before .room-sound .ensures) (c .before .before .before .before .before .before .before .before .before .before .before .if2 .left) (c .before .before .before .before .before .before .before .before .before .before .keys-of .ensures) (c .before .before .before .before .before .before .before .before .if3 .left) (c .before .before .before .places-of .ensures) (c .before .if4 .taken)
+
+free-lots-requires : tie.Need-free-lots-requires
+free-lots-requires c κs = walkable (c .before .before .before .before .before .before .before .before .before .before .before .before .before .before .before .before .before .before .args .b) (passed (c .before .before .before .before .before .before .before .before .before .before .before .before .before .before .before .head-sound .ensures) (c .before .before .before .before .before .before .before .before .before .before .before .before .before .before .if1 .left)) (c .before .before .before .before .before .before .before .before .before .before .before .before .before .room-sound .ensures) (c .before .before .before .before .before .before .before .before .before .before .before .before .if2 .left) (c .before .before .before .before .before .before .before .before .before .before .before .keys-of .ensures) (c .before .before .before .before .before .before .before .before .before .if3 .left) (c .before .before .before .before .places-of .ensures) (c .before .before .if4 .left)
+
+returns-5 : tie.Need-returns-5
+returns-5 c = walk-decides _ (passed (c .before .before .before .before .before .before .before .before .before .before .before .before .before .before .before .before .head-sound .ensures) (c .before .before .before .before .before .before .before .before .before .before .before .before .before .before .before .if1 .left)) (c .before .before .before .before .before .before .before .before .before .before .before .before .before .before .room-sound .ensures) (c .before .before .before .before .before .before .before .before .before .before .before .before .before .if2 .left) (c .before .before .before .before .before .before .before .before .before .before .before .before .keys-of .ensures) (c .before .before .before .before .before .before .before .before .before .before .if3 .left) (c .before .before .before .before .before .places-of .ensures) (c .before .before .before .if4 .left) (c .free-lots .ensures)
 
 pub checked-book-spec : {M : Type 1} → statement M
 checked-book-spec =
@@ -30,8 +40,13 @@ checked-book-spec =
     (λ c κs. search needs)
     (λ c κs. search needs)
     returns-2
-    (λ c κs. search needs)
+    keys-of-requires
     (λ c κs. search needs)
     returns-3
+    (λ c. search needs)
+    (λ c. search needs)
+    places-of-requires
+    (λ c κs. search needs)
+    returns-4
     free-lots-requires
-    returns-4)
+    returns-5)

@@ -1,6 +1,6 @@
 use mathlib.Core.Path.{_∙_}
 use borrow.Author.Needs.{needs}
-use Rattle.statement.specs.StatementLaws.{book-refused, margin-refused, margin-stated}
+use Rattle.statement.specs.StatementLaws.{book-refused, book-stated}
 use Rattle.statement.proofs.state.Statement.{statement}
 use Rattle.statement.proofs.state.Tie as tie
 
@@ -8,10 +8,7 @@ returns : tie.Need-returns
 returns c = c .refusal .ensures ∙ book-refused _ _ _ (c .before .before .before .read .ensures) (c .before .if1 .taken)
 
 returns-2 : tie.Need-returns-2
-returns-2 c = c .refusal2 .ensures ∙ margin-refused _ _ _ (c .before .before .before .before .before .before .before .read .ensures) _ (c .before .before .before .margin-of .ensures) (c .before .before .before .before .before .if1 .left) (c .before .if2 .taken)
-
-returns-3 : tie.Need-returns-3
-returns-3 c = c .result .ensures ∙ margin-stated _ _ _ (c .before .before .before .before .before .before .before .before .read .ensures) _ (c .before .before .before .before .margin-of .ensures) (c .before .before .before .before .before .before .if1 .left) (c .before .before .if2 .left)
+returns-2 c = c .line-of .ensures ∙ book-stated _ _ _ (c .before .before .before .before .before .read .ensures) _ (c .before .margin-of .ensures) (c .before .before .before .if1 .left)
 
 pub state-spec : {M : Type 1} → statement M
 state-spec =
@@ -22,6 +19,4 @@ state-spec =
     returns
     (λ c κs. search needs)
     (λ c κs. search needs)
-    returns-2
-    (λ c κs. search needs)
-    returns-3)
+    returns-2)

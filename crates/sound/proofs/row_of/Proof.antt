@@ -1,0 +1,13 @@
+use Rattle.sound.specs.LegLaws.{row-sought}
+use Rattle.sound.specs.Walk.{rowOf}
+use mathlib.Core.Path.{_≡_, _∙_, ap}
+use native.Mathlib.Omega.{arith}
+use borrow.Author.Needs.{needs}
+use Rattle.sound.proofs.row_of.Statement.{statement}
+use Rattle.sound.proofs.row_of.Tie as tie
+
+returns : tie.Need-returns
+returns c = row-sought _ (c .before .leg-key .ensures) (c .find .ensures)
+
+pub row-of-spec : {M : Type 1} → statement M
+row-of-spec = tie.close (tie.spec (λ c κs. search needs) (λ c κs. search needs) returns)
