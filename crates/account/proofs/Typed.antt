@@ -10,6 +10,6 @@ use Rattle.sheets.specs.declared.Sheet.{Sheet}
 use Rattle.sheets.proofs.Sheet as type
 use Rattle.sheets.proofs.Sheet.Laws as laws
 
--- There is room for 1,024 S rows.
-pub stocks-long : (sheet : Sheet) {vs : List Val} → Is (row type.the-type) sheet vs → length (sheet .stocks) ≡ 1024
+-- There are 676 places for S rows.
+pub stocks-long : (sheet : Sheet) {vs : List Val} → Is (row type.the-type) sheet vs → length (sheet .stocks) ≡ 676
 stocks-long sheet g = simp length-map at (owed type.the-type laws.the-laws sheet _ g .1 .1 .1 .1 .1 .0 .1 .0 .1)

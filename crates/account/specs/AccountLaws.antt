@@ -6,7 +6,6 @@ use Prim.Native.Nat.{ℕ, _-_, _<_}
 use native.Mathlib.Omega.{arith}
 use lib.ListN.{getD, length, length-map, List·getD-append}
 use lib.Seq.{getD-take}
-use Rattle.laws.specs.Truth.{both}
 use Rattle.laws.specs.TruthLaws.{by-test, clash}
 use Rattle.laws.specs.Search.{everyLine, gathered}
 use Rattle.laws.specs.SearchLaws.{every-append, every-at, every-gathered}
@@ -20,32 +19,21 @@ use Rattle.rows.specs.declared.Book.{Book}
 use Rattle.rows.specs.Rows.{emptyHolding}
 use Rattle.rows.specs.Book.{holdingsOf, pairsOf}
 use Rattle.rules.specs.Lots.{freeHolding, freeRows}
-use Rattle.rules.specs.Rules.{goodHolding, soundBook}
+use Rattle.rules.specs.Rules.{goodHolding}
 use Rattle.rules.specs.Facts.{Sound}
 use Rattle.rules.specs.RuleLaws.{holding-is, holdings-count, holdings-good, pairs-count}
 use Rattle.sheets.specs.LookupLaws.{map-says}
-use Rattle.sound.specs.declared.Checked.{Checked}
-use Rattle.sound.specs.Checked.{checkedAs, checkedBook}
-use Rattle.sound.specs.CheckedLaws.{answer-says}
-use Rattle.sound.specs.Walk.{noRow, noPair}
+use Rattle.sound.specs.Walk.{noRow, noPair, Walkable}
 use Rattle.quotes.specs.declared.Quote.{Quote}
 use Rattle.quotes.specs.View.{View}
 use Rattle.quotes.specs.Quotes.{noQuote, onSheet, quoteOf}
 use Rattle.account.specs.declared.Part.{Part}
 use Rattle.account.specs.Needed.{neededByHolding, neededByPair, neededBy}
 use Rattle.account.specs.Margin.{plus, holdingMargin, pairMargin, sumLevels, paysC, accountMargin}
-use Rattle.account.specs.Walk.{Quoted, allBelow, sumBelow, partOf, rowLimit, pairReady, readyAt, comesAt, pairReadyAt, pairComesAt, PairStands}
+use Rattle.account.specs.Walk.{QuotesAre, allBelow, sumBelow, partOf, rowLimit, pairReady, readyAt, comesAt, pairReadyAt, pairComesAt, PairStands}
 use Rattle.account.specs.SumLaws.{one-fails, all-same, sum-same, sum-most, every-below, sum-below}
 use Rattle.account.specs.RowLaws.{holding-ready, holding-most, holding-comes, pair-ready, pair-comes, pair-most}
 use Rattle.account.specs.LegLaws.{legs-found}
-
--- What the book's check says.
-pub checked-sound : (b : Book) {c : Checked} {t : Bool} → c ≡ checkedBook b → c .sound ≡ t → soundBook b ≡ t
-checked-sound b e h = sym (answer-says b e) ∙ h
-
-pub checked-free : (b : Book) {c : Checked} → c ≡ checkedBook b → soundBook b ≡ true → c .free ≡ full 128 emptyHolding (freeRows (holdingsOf b) (pairsOf b))
-unfolding checkedBook checkedAs
-checked-free b e h = ap (λ (c : Checked). c .free) e ∙ rw h refl
 
 -- What a sum that was answered says.
 pub part-ready : (t : Bool) (l : Levels) {r : Part} → r ≡ partOf t l → r .ready ≡ t
@@ -61,7 +49,7 @@ below-at : (test : ℕ → Bool) (i n : ℕ) → allBelow test n ≡ true → i 
 below-at test i n e lt =
     by-test (λ (b : Bool). test i ≡ b → b ≡ true) (test i) (λ q f. refl) (λ q f. absurd (clash e (one-fails test i n lt f))) refl
 
-module _ {v : View} {b : Book} {quotes : List Quote} {highs lows : List ℕ} (s : Sound b) (q : Quoted v (b .holdings) (b .held) quotes highs lows) where
+module _ {v : View} {b : Book} {quotes : List Quote} (s : Sound b) (q : QuotesAre v (b .holdings) (b .held) quotes) where
   -- The holdings' free lots.
   module _ {free : List Holding} (is : free ≡ full 128 emptyHolding (freeRows (holdingsOf b) (pairsOf b))) where
     count : length (freeRows (holdingsOf b) (pairsOf b)) ≡ b .held
@@ -78,7 +66,7 @@ module _ {v : View} {b : Book} {quotes : List Quote} {highs lows : List ℕ} (s 
 
     row-quote : (i : ℕ) → i < b .held → getD quotes i noQuote ≡ quoteOf v (getD free i noRow .series)
     unfolding freeHolding holdingsOf
-    row-quote i lt = q .quotes-are i lt ∙ ap (λ (h : Holding). quoteOf v (h .series)) (sym (getD-take (b .held) (b .holdings) i noRow lt)) ∙ ap (λ (h : Holding). quoteOf v (h .series)) (sym (row-is i lt))
+    row-quote i lt = q .are i lt ∙ ap (λ (h : Holding). quoteOf v (h .series)) (sym (getD-take (b .held) (b .holdings) i noRow lt)) ∙ ap (λ (h : Holding). quoteOf v (h .series)) (sym (row-is i lt))
 
     pub loose-most : (i : ℕ) → i < b .held → AtMost rowLimit (comesAt free quotes i)
     unfolding comesAt freeHolding
@@ -109,41 +97,42 @@ module _ {v : View} {b : Book} {quotes : List Quote} {highs lows : List ℕ} (s 
   unfolding pairsOf
   pair-row j lt = sym (getD-take (b .paired) (b .pairs) j noPair lt)
 
-  pub pairs-stand : (charged : Bool) (j : ℕ) → j < b .paired → PairStands quotes highs lows (b .held) charged (getD (b .pairs) j noPair)
-  pairs-stand charged j lt =
-      let f = legs-found s q j lt in
-      let few = s .holdings-sound .few in
-      record {
-        first-stands = omega (arith, f .first-stands);
-        second-stands = omega (arith, f .second-stands);
-        most = rw (f .first-quote, f .second-quote) (pair-most v charged (getD (b .pairs) j noPair) (f .good));
-      }
+  module _ {firsts seconds : List ℕ} (l : Walkable (b .holdings) (b .held) (b .pairs) (b .paired) firsts seconds) where
+    pub pairs-stand : (charged : Bool) (j : ℕ) → j < b .paired → PairStands quotes firsts seconds (b .pairs) charged j
+    unfolding pairComesAt
+    pairs-stand charged j lt =
+        let f = legs-found s q l j lt in
+        record {
+          first-stands = f .first-stands;
+          second-stands = f .second-stands;
+          most = rw (f .first-quote, f .second-quote) (pair-most v charged (getD (b .pairs) j noPair) (f .good));
+        }
 
-  pub tied-total : (charged : Bool) → AtMost 1000000000000000000 (sumBelow (pairComesAt quotes highs lows (b .held) (b .pairs) charged) (b .paired))
-  unfolding pairComesAt
-  tied-total charged =
-      let few = s .pairs-sound .few in
-      at-most-more (omega arith) (sum-most (pairComesAt quotes highs lows (b .held) (b .pairs) charged) (b .paired) (λ j lt. pairs-stand charged j lt .most))
+    pub tied-total : (charged : Bool) → AtMost 1000000000000000000 (sumBelow (pairComesAt quotes firsts seconds (b .pairs) charged) (b .paired))
+    unfolding pairComesAt
+    tied-total charged =
+        let few = s .pairs-sound .few in
+        at-most-more (omega arith) (sum-most (pairComesAt quotes firsts seconds (b .pairs) charged) (b .paired) (λ j lt. pairs-stand charged j lt .most))
 
-  ready-at : (j : ℕ) → j < b .paired → pairReadyAt quotes highs lows (b .held) (b .pairs) j ≡ pairReady (getD (b .pairs) j noPair .kind) (quoteOf v (getD (b .pairs) j noPair .first)) (quoteOf v (getD (b .pairs) j noPair .second))
-  unfolding pairReadyAt
-  ready-at j lt = let f = legs-found s q j lt in rw (f .first-quote, f .second-quote) refl
+    ready-at : (j : ℕ) → j < b .paired → pairReadyAt quotes firsts seconds (b .pairs) j ≡ pairReady (getD (b .pairs) j noPair .kind) (quoteOf v (getD (b .pairs) j noPair .first)) (quoteOf v (getD (b .pairs) j noPair .second))
+    unfolding pairReadyAt
+    ready-at j lt = let f = legs-found s q l j lt in rw (f .first-quote, f .second-quote) refl
 
-  pub tied-ready : allBelow (pairReadyAt quotes highs lows (b .held) (b .pairs)) (b .paired) ≡ everyLine (onSheet v) (gathered neededByPair (pairsOf b))
-  tied-ready =
-      all-same _ _ (b .paired) (λ j lt. ready-at j lt ∙ pair-ready v (getD (b .pairs) j noPair) ∙ ap (λ (p : Pair). everyLine (onSheet v) (neededByPair p)) (pair-row j lt))
-      ∙ ap (allBelow (λ (j : ℕ). everyLine (onSheet v) (neededByPair (getD (pairsOf b) j noPair)))) (sym (pairs-count s))
-      ∙ every-below noPair (λ (p : Pair). everyLine (onSheet v) (neededByPair p)) (pairsOf b)
-      ∙ sym (every-gathered (onSheet v) neededByPair (pairsOf b))
+    pub tied-ready : allBelow (pairReadyAt quotes firsts seconds (b .pairs)) (b .paired) ≡ everyLine (onSheet v) (gathered neededByPair (pairsOf b))
+    tied-ready =
+        all-same _ _ (b .paired) (λ j lt. ready-at j lt ∙ pair-ready v (getD (b .pairs) j noPair) ∙ ap (λ (p : Pair). everyLine (onSheet v) (neededByPair p)) (pair-row j lt))
+        ∙ ap (allBelow (λ (j : ℕ). everyLine (onSheet v) (neededByPair (getD (pairsOf b) j noPair)))) (sym (pairs-count s))
+        ∙ every-below noPair (λ (p : Pair). everyLine (onSheet v) (neededByPair p)) (pairsOf b)
+        ∙ sym (every-gathered (onSheet v) neededByPair (pairsOf b))
 
-  pub tied-sum : (charged : Bool) → allBelow (pairReadyAt quotes highs lows (b .held) (b .pairs)) (b .paired) ≡ true → sumBelow (pairComesAt quotes highs lows (b .held) (b .pairs) charged) (b .paired) ≡ sumLevels (pairMargin v charged) (pairsOf b)
-  unfolding pairComesAt
-  tied-sum charged e =
-      sum-same _ _ (b .paired) (λ j lt.
-      let f = legs-found s q j lt in
-      rw (f .first-quote, f .second-quote) (pair-comes v charged (getD (b .pairs) j noPair) (f .good) (sym (ready-at j lt) ∙ below-at _ j (b .paired) e lt)) ∙ ap (pairMargin v charged) (pair-row j lt))
-      ∙ ap (sumBelow (λ (j : ℕ). pairMargin v charged (getD (pairsOf b) j noPair))) (sym (pairs-count s))
-      ∙ sum-below noPair (pairMargin v charged) (pairsOf b)
+    pub tied-sum : (charged : Bool) → allBelow (pairReadyAt quotes firsts seconds (b .pairs)) (b .paired) ≡ true → sumBelow (pairComesAt quotes firsts seconds (b .pairs) charged) (b .paired) ≡ sumLevels (pairMargin v charged) (pairsOf b)
+    unfolding pairComesAt
+    tied-sum charged e =
+        sum-same _ _ (b .paired) (λ j lt.
+        let f = legs-found s q l j lt in
+        rw (f .first-quote, f .second-quote) (pair-comes v charged (getD (b .pairs) j noPair) (f .good) (sym (ready-at j lt) ∙ below-at _ j (b .paired) e lt)) ∙ ap (pairMargin v charged) (pair-row j lt))
+        ∙ ap (sumBelow (λ (j : ℕ). pairMargin v charged (getD (pairsOf b) j noPair))) (sym (pairs-count s))
+        ∙ sum-below noPair (pairMargin v charged) (pairsOf b)
 
 -- What both say together.
 pub loose-missing : (v : View) (b : Book) → everyLine (onSheet v) (gathered neededByHolding (freeRows (holdingsOf b) (pairsOf b))) ≡ false → everyLine (onSheet v) (neededBy b) ≡ false

@@ -19,27 +19,26 @@ use Rattle.rows.specs.declared.Holding.{Holding}
 use Rattle.sheets.specs.declared.Found.{Found}
 use Rattle.sheets.specs.declared.Sheet.{Sheet}
 use Rattle.sheets.specs.Rows.{nothing, noIndex, noStock}
-use Rattle.sheets.specs.Sheet.{futurePlace, optionPlace, stockAt, priceAmong, pricesAt, clearingOn, indexOn, stockOn, priceOn}
+use Rattle.sheets.specs.Sheet.{futurePlace, optionPlace, stockPlace, priceAmong, pricesAt, clearingOn, indexOn, stockOn, priceOn}
 use Rattle.sheets.specs.SeekLaws.{filled-says}
 use Rattle.sound.specs.Walk.{noRow, Keyed}
-use Rattle.sound.specs.KeyedLaws.{keyed-fewer}
 use Rattle.quotes.specs.declared.Quote.{Quote}
 use Rattle.quotes.specs.View.{View, saying, sheetView}
 use Rattle.quotes.specs.Quotes.{noQuote, quoteAs, quoteOf}
 use Rattle.quotes.specs.QuoteLaws.{quote-said}
-use Rattle.account.specs.Walk.{Priced, QuotesAre, Quoted}
+use Rattle.account.specs.Walk.{Priced, QuotesAre}
 
--- The row at a place of 1,024, read at the nearest place that there is.
-row-inside : (rows : List StockLine) (at : ℕ) → length rows ≡ 1024 → pick (ltb at 1024) (getD rows (min at 1023) noStock) noStock ≡ getD rows at noStock
-row-inside rows at long = go (decLt at 1024)
+-- The row at a place of 676, read at the nearest place that there is.
+row-inside : (rows : List StockLine) (at : ℕ) → length rows ≡ 676 → pick (ltb at 676) (getD rows (min at 675) noStock) noStock ≡ getD rows at noStock
+row-inside rows at long = go (decLt at 676)
   where
-    go : Dec (at < 1024) → pick (ltb at 1024) (getD rows (min at 1023) noStock) noStock ≡ getD rows at noStock
-    go (yes q) = let e : min at 1023 ≡ at = omega arith in rw (lt-ltb at 1024 q, e) refl
-    go (no q) = rw (le-ltb at 1024 (omega arith)) (sym (List·getD-eq-default rows noStock (omega arith)))
+    go : Dec (at < 676) → pick (ltb at 676) (getD rows (min at 675) noStock) noStock ≡ getD rows at noStock
+    go (yes q) = let e : min at 675 ≡ at = omega arith in rw (lt-ltb at 676 q, e) refl
+    go (no q) = rw (le-ltb at 676 (omega arith)) (sym (List·getD-eq-default rows noStock (omega arith)))
 
 -- What the lookups of a series find, put together, is its quote.
 module _ (sheet : Sheet) (s : Series) {p : Product} {clearing price : Found} {index : IndexLine} {stock : StockLine} {at k : ℕ} {q : Quote} where
-  pub row-quoted : length (sheet .stocks) ≡ 1024 → p ≡ productOf (s .code) → clearing ≡ getD (sheet .futures) (futurePlace (p .parent)) nothing → index ≡ getD (sheet .options) (optionPlace (s .code)) noIndex → at ≡ stockAt (sheet .firsts) (sheet .seconds) (sheet .listed) (p .parent) → k ≡ min at 1023 → stock ≡ pick (ltb at 1024) (getD (sheet .stocks) k noStock) noStock → price ≡ sheetView sheet .price s → q ≡ quoteAs (saying clearing index stock price) p s → q ≡ quoteOf (sheetView sheet) s
+  pub row-quoted : length (sheet .stocks) ≡ 676 → p ≡ productOf (s .code) → clearing ≡ getD (sheet .futures) (futurePlace (p .parent)) nothing → index ≡ getD (sheet .options) (optionPlace (s .code)) noIndex → at ≡ stockPlace (p .parent) → k ≡ min at 675 → stock ≡ pick (ltb at 676) (getD (sheet .stocks) k noStock) noStock → price ≡ sheetView sheet .price s → q ≡ quoteAs (saying clearing index stock price) p s → q ≡ quoteOf (sheetView sheet) s
   unfolding sheetView quoteOf clearingOn indexOn stockOn
   row-quoted long hp hc hi ha hk hs hv hq =
       let st : stock ≡ stockOn sheet (p .parent) = rw (hs, hk, row-inside (sheet .stocks) at long, ha) refl in
@@ -47,7 +46,7 @@ module _ (sheet : Sheet) (s : Series) {p : Product} {clearing price : Found} {in
       hq ∙ said ∙ ap (λ (o : Product). quoteAs (sheetView sheet) o s) hp
 
 -- What was found for the keys of the rows are their prices.
-pub rows-priced : (sheet : Sheet) (rows : List Holding) (held : ℕ) {highs lows : List ℕ} {prices : List Found} → Keyed noRow rows 128 highs lows → held ≤ 128 → prices ≡ pricesAt (sheet .prices) (sheet .quoted) highs lows held → Priced (sheetView sheet) rows held prices
+pub rows-priced : (sheet : Sheet) (rows : List Holding) (held : ℕ) {highs lows : List ℕ} {prices : List Found} → Keyed noRow rows held highs lows → held ≤ 128 → prices ≡ pricesAt (sheet .prices) (sheet .quoted) highs lows held → Priced (sheetView sheet) rows held prices
 unfolding sheetView priceOn pricesAt
 rows-priced sheet rows held {highs} {lows} keyed few is =
     let all : min held 128 ≡ held = omega arith in
@@ -55,7 +54,7 @@ rows-priced sheet rows held {highs} {lows} keyed few is =
       prices-are = λ i lt.
           rw (is, all)
           (filled-says (λ (j : ℕ). priceAmong (take (sheet .quoted) (sheet .prices)) (keyAt highs lows j)) nothing held (replicate 128 nothing) i (simp length-replicate few) lt
-          ∙ ap (priceAmong (take (sheet .quoted) (sheet .prices))) (λ j. keyed .highs-are i (omega arith) j ∷ keyed .lows-are i (omega arith) j ∷ []));
+          ∙ ap (priceAmong (take (sheet .quoted) (sheet .prices))) (λ j. keyed .highs-are i lt j ∷ keyed .lows-are i lt j ∷ []));
     }
 
 -- The loop over rows: it has quoted the first i.
@@ -71,6 +70,3 @@ quotes-on {v} {rows} {i} {quotes} {q} z lt hq = record { long = length-set quote
         let same : j ≡ i = omega arith in
         let long = z .long in
         rw (same, getD-set-same quotes i q noQuote (omega arith)) hq
-
-pub rows-quoted : {v : View} {rows : List Holding} {held : ℕ} {quotes : List Quote} {highs lows : List ℕ} → held ≤ 128 → Keyed noRow rows 128 highs lows → QuotesAre v rows held quotes → Quoted v rows held quotes highs lows
-rows-quoted few keyed z = record { keyed = keyed-fewer few keyed; quotes-long = z .long; quotes-are = z .are }

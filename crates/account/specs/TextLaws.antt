@@ -31,8 +31,8 @@ use Rattle.sheets.specs.declared.FutureRow.{FutureRow}
 use Rattle.sheets.specs.declared.OptionRow.{OptionRow}
 use Rattle.sheets.specs.declared.StockRow.{StockRow}
 use Rattle.sheets.specs.declared.PriceRow.{PriceRow}
-use Rattle.sheets.specs.Rows.{futureCodes, optionCodes, found, nothing, noIndex, noStock, clearingIn, indexIn, stockIn, priceIn}
-use Rattle.checking.specs.Lines.{among, twoCapitals}
+use Rattle.sheets.specs.Rows.{futureCodes, optionCodes, twoCapitals, found, nothing, noIndex, noStock, clearingIn, indexIn, stockIn, priceIn}
+use Rattle.checking.specs.Lines.{among}
 use Rattle.checking.specs.Reading.{rowsOf, judged, readText}
 use Rattle.checking.specs.Next.{goodFuture, goodOption, goodStock, goodPrice}
 use Rattle.checking.specs.RowLaws.{futures-good, options-good, stocks-good, prices-good}
@@ -40,7 +40,7 @@ use Rattle.checking.specs.SheetLaws.{judged-good, found-clearing, found-index, 
 use Rattle.quotes.specs.declared.Quote.{Quote}
 use Rattle.quotes.specs.View.{View, rowsView, sheetView}
 use Rattle.quotes.specs.Quotes.{SheetLine, fLine, oLine, sLine, qLine, clearingStands, priceStands, onSheet, tenthLines, quoteAs, quoteOf}
-use Rattle.quotes.specs.QuoteLaws.{quote-same, parent-three}
+use Rattle.quotes.specs.QuoteLaws.{quote-same}
 use Rattle.account.specs.Needed.{chargedLots, ownLineOf, linesOf, neededByHolding, neededByPair, neededBy}
 use Rattle.account.specs.Margin.{times, plus, holdingMargin, pairMargin, sumLevels, paysC, accountMargin, marginChecks, marginText}
 use Rattle.account.specs.CallLaws.{margin-accepted}
@@ -158,7 +158,7 @@ module _ (t : List ℕ) where
       quote-same (sheetView (readText t)) (rowsView (rowsOf (judged t .lines))) s
       (found-clearing t (productOf (s .code) .parent))
       (found-index t (s .code))
-      (found-stock t (productOf (s .code) .parent) (parent-three s))
+      (found-stock t (productOf (s .code) .parent))
       (found-price t s g)
 
   pub text-needed : (b : Book) → soundBook b ≡ true → everyLine (onSheet (sheetView (readText t))) (neededBy b) ≡ everyLine (onSheet (rowsView (rowsOf (judged t .lines)))) (neededBy b)

@@ -1,15 +1,12 @@
 -- What the parts of the account's margin ask and answer: rows that were quoted once, and sums over rows by their place.
 use mathlib.Core.Path.{_≡_}
 use mathlib.Core.Bool.{Bool, true, false}
-use mathlib.Core.List.{List, [], _∷_}
+use mathlib.Core.List.{List}
 use Prim.Native.Nat.{ℕ, zero, suc, _<_}
 use lib.Dec.{eqb}
 use lib.ListN.{getD, length}
 use Rattle.laws.specs.Truth.{pick, both}
 use Rattle.laws.specs.Kinds.{byKind}
-use Rattle.halving.specs.Halving.{findIn}
-use Rattle.series.specs.declared.Series.{Series}
-use Rattle.series.specs.Key.{highKey, natureKey}
 use Rattle.levels.specs.declared.Levels.{Levels}
 use Rattle.levels.specs.Levels.{flat}
 use Rattle.levels.specs.Ranges.{AtMost}
@@ -18,7 +15,7 @@ use Rattle.rows.specs.declared.Holding.{Holding}
 use Rattle.rows.specs.declared.Pair.{Pair}
 use Rattle.sheets.specs.declared.Found.{Found}
 use Rattle.sheets.specs.Rows.{nothing}
-use Rattle.sound.specs.Walk.{noRow, noPair, Keyed}
+use Rattle.sound.specs.Walk.{noRow, noPair}
 use Rattle.quotes.specs.declared.Quote.{Quote}
 use Rattle.quotes.specs.View.{View}
 use Rattle.quotes.specs.Quotes.{noQuote, quoteOf}
@@ -33,12 +30,6 @@ pub record Priced (v : View) (rows : List Holding) (n : ℕ) (prices : List Foun
 pub record QuotesAre (v : View) (rows : List Holding) (n : ℕ) (quotes : List Quote) : Type 0 where
   pub long : length quotes ≡ 128
   pub are : (i : ℕ) → i < n → getD quotes i noQuote ≡ quoteOf v (getD rows i noRow .series)
-
--- The rows of a book, each quoted once, with its key in two halves.
-pub record Quoted (v : View) (rows : List Holding) (n : ℕ) (quotes : List Quote) (highs lows : List ℕ) : Type 0 where
-  pub keyed : Keyed noRow rows n highs lows
-  pub quotes-long : length quotes ≡ 128
-  pub quotes-are : (i : ℕ) → i < n → getD quotes i noQuote ≡ quoteOf v (getD rows i noRow .series)
 
 -- Of the first n places: the test holds of all, and the sum of the amounts.
 unfoldable pub allBelow : (ℕ → Bool) → ℕ → Bool
@@ -82,13 +73,6 @@ unfoldable pub pairComes : Bool → Pair → Quote → Quote → Levels
 pairComes charged p first second =
     times (p .units) (unitMargin (p .kind) (first .lot) (second .lot) (second .terms) (p .r1) (p .r2) charged .levels)
 
--- the quote of a leg, which stands where its series stands among the holdings
-unfoldable pub legPlace : List ℕ → List ℕ → ℕ → Series → ℕ
-legPlace highs lows held s = findIn highs lows held (highKey s ∷ natureKey (s .nature) ∷ [])
-
-unfoldable pub legQuote : List Quote → List ℕ → List ℕ → ℕ → Series → Quote
-legQuote quotes highs lows held s = getD quotes (legPlace highs lows held s) noQuote
-
 -- the same by place: of holdings,
 unfoldable pub readyAt : List Holding → List Quote → ℕ → Bool
 readyAt rows quotes i = holdingReady (getD rows i noRow) (getD quotes i noQuote)
@@ -96,18 +80,16 @@ readyAt rows quotes i = holdingReady (getD rows i noRow) (getD quotes i noQuote)
 unfoldable pub comesAt : List Holding → List Quote → ℕ → Levels
 comesAt rows quotes i = holdingComes (getD rows i noRow) (getD quotes i noQuote)
 
--- and of pairs
-module _ (quotes : List Quote) (highs lows : List ℕ) (held : ℕ) (pairs : List Pair) where
+-- and of pairs, the quotes of whose legs stand where their rows stand
+module _ (quotes : List Quote) (firsts seconds : List ℕ) (pairs : List Pair) where
   unfoldable pub pairReadyAt : ℕ → Bool
-  pairReadyAt j =
-      pairReady (getD pairs j noPair .kind) (legQuote quotes highs lows held (getD pairs j noPair .first)) (legQuote quotes highs lows held (getD pairs j noPair .second))
+  pairReadyAt j = pairReady (getD pairs j noPair .kind) (getD quotes (getD firsts j 0) noQuote) (getD quotes (getD seconds j 0) noQuote)
 
   unfoldable pub pairComesAt : Bool → ℕ → Levels
-  pairComesAt charged j =
-      pairComes charged (getD pairs j noPair) (legQuote quotes highs lows held (getD pairs j noPair .first)) (legQuote quotes highs lows held (getD pairs j noPair .second))
+  pairComesAt charged j = pairComes charged (getD pairs j noPair) (getD quotes (getD firsts j 0) noQuote) (getD quotes (getD seconds j 0) noQuote)
 
 -- What a walk over pairs asks of a pair: its legs stand, and it comes to no more than a row may.
-pub record PairStands (quotes : List Quote) (highs lows : List ℕ) (held : ℕ) (charged : Bool) (p : Pair) : Type 0 where
-  pub first-stands : legPlace highs lows held (p .first) < 128
-  pub second-stands : legPlace highs lows held (p .second) < 128
-  pub most : AtMost rowLimit (pairComes charged p (legQuote quotes highs lows held (p .first)) (legQuote quotes highs lows held (p .second)))
+pub record PairStands (quotes : List Quote) (firsts seconds : List ℕ) (pairs : List Pair) (charged : Bool) (j : ℕ) : Type 0 where
+  pub first-stands : getD firsts j 0 < 128
+  pub second-stands : getD seconds j 0 < 128
+  pub most : AtMost rowLimit (pairComesAt quotes firsts seconds pairs charged j)

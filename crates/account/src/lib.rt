@@ -3,23 +3,21 @@ ghost use mathlib.Core.Path.{_≡_};
 ghost use mathlib.Core.Bool.{true, false};
 ghost use Prim.Native.Nat.{ℕ, _≤_, _<_, min};
 ghost use lib.Dec.{ltb};
-ghost use lib.ListN.{getD};
 ghost use Rattle.laws.specs.Truth.{pick};
 ghost use Rattle.levels.specs.Levels.{flat};
 ghost use Rattle.levels.specs.Ranges.{AtMost};
 ghost use Rattle.sheets.specs.Rows.{noStock};
-ghost use Rattle.sound.specs.Walk.{noRow, noPair, Keyed};
+ghost use Rattle.sound.specs.Walk.{noRow, Keyed};
 ghost use Rattle.quotes.specs.View.{sheetView};
 ghost use Rattle.account.specs.Needed.{chargedLots};
 ghost use Rattle.account.specs.Margin.{times, plus, marginOn, marginText};
-ghost use Rattle.account.specs.Walk.{Priced, QuotesAre, Quoted, allBelow, sumBelow, partOf, rowLimit, holdingReady, holdingComes, pairReady, pairComes, legPlace, readyAt, comesAt, pairReadyAt, pairComesAt, PairStands};
+ghost use Rattle.account.specs.Walk.{Priced, QuotesAre, allBelow, sumBelow, partOf, rowLimit, holdingReady, holdingComes, pairReady, pairComes, readyAt, comesAt, pairReadyAt, pairComesAt, PairStands};
 use amounts::StockLine;
 use levels::Levels;
 use quotes::Quote;
 use rows::Book;
 use rows::Holding;
 use rows::Pair;
-use series::Series;
 use sheets::Found;
 use sheets::Sheet;
 
@@ -34,19 +32,6 @@ pub struct Margin {
 struct Part {
     ready: bool,
     levels: Levels,
-}
-
-// The keys of rows, half by half.
-struct Keys {
-    highs: [u64; 128],
-    lows: [u64; 128],
-}
-
-// The rows of a book, each quoted once, with its key in two halves.
-struct Quotes {
-    quotes: [Quote; 128],
-    highs: [u64; 128],
-    lows: [u64; 128],
 }
 
 fn refused(number: u8, line: u32) -> Margin
@@ -92,35 +77,17 @@ fn add(l: Levels, m: Levels) -> Levels
     }
 }
 
-// The row at a place of 1,024, or that there is none.
+// The row at a place of 676, or that there is none.
 fn inside(at: usize) -> usize
-    ensures { λ r. ⌜ r ≡ min at 1023 ⌝ }
+    ensures { λ r. ⌜ r ≡ min at 675 ⌝ }
 {
-    if at < 1023 { at } else { 1023 }
+    if at < 675 { at } else { 675 }
 }
 
 fn stock_at(at: usize, row: StockLine) -> StockLine
-    ensures { λ r. ⌜ r ≡ pick (ltb at 1024) row noStock ⌝ }
+    ensures { λ r. ⌜ r ≡ pick (ltb at 676) row noStock ⌝ }
 {
-    if at < 1024 { row } else { sheets::no_stock() }
-}
-
-// The keys of the rows, half by half.
-fn keys_of(rows: [Holding; 128]) -> Keys
-    ensures { λ r. ⌜ Keyed noRow rows 128 (r .highs) (r .lows) ⌝ }
-{
-    let mut highs = [0u64; 128];
-    let mut lows = [0u64; 128];
-    let mut i: usize = 0;
-    while i < 128 {
-        let h = rows[i];
-        let s = h.series;
-        let k = series::halves_of(s);
-        highs[i] = k.high;
-        lows[i] = k.low;
-        i += 1;
-    }
-    Keys { highs, lows }
+    if at < 676 { row } else { sheets::no_stock() }
 }
 
 // What the sheet, and the price that was found for it, say of the series of each of the first `held` rows.
@@ -141,7 +108,7 @@ fn quotes_of(rows: [Holding; 128], held: usize, sheet: Sheet, prices: [Found; 12
         let parent = product.parent;
         let clearing = sheets::clearing_of(futures, parent);
         let index = sheets::index_of(options, code);
-        let at = sheets::stock_place(&sheet.firsts, &sheet.seconds, sheet.listed, parent);
+        let at = sheets::stock_place(parent);
         let row = sheet.stocks[inside(at)];
         let stock = stock_at(at, row);
         let price = prices[i];
@@ -152,22 +119,20 @@ fn quotes_of(rows: [Holding; 128], held: usize, sheet: Sheet, prices: [Found; 12
     quotes
 }
 
-// What the sheet says of the series of each of the first `held` rows.
-fn quote_rows(rows: [Holding; 128], held: usize, sheet: Sheet) -> Quotes
-    requires { ⌜ held ≤ 128 ⌝ }
-    ensures { λ r. ⌜ Quoted (sheetView sheet) rows held (r .quotes) (r .highs) (r .lows) ⌝ }
+// What the sheet says of the series of each of the first `held` rows, whose keys these are, half by half.
+fn quote_rows(
+    rows: [Holding; 128],
+    held: usize,
+    sheet: Sheet,
+    highs: [u64; 128],
+    lows: [u64; 128],
+) -> [Quote; 128]
+    requires { ⌜ (held ≤ 128) × Keyed noRow rows held highs lows ⌝ }
+    ensures { λ r. ⌜ QuotesAre (sheetView sheet) rows held r ⌝ }
 {
-    let keys = keys_of(rows);
-    let highs = keys.highs;
-    let lows = keys.lows;
     let lent = sheet.prices;
     let prices = sheets::prices_of(lent, sheet.quoted, &highs, &lows, held);
-    let quotes = quotes_of(rows, held, sheet, prices);
-    Quotes {
-        quotes,
-        highs,
-        lows,
-    }
+    quotes_of(rows, held, sheet, prices)
 }
 
 // Free futures of both sides, free options of the short side.
@@ -250,35 +215,24 @@ fn pair_comes(charged: bool, p: Pair, first: Quote, second: Quote) -> Levels
     multiply(p.units as u64, margin)
 }
 
-// The place of a leg's series among the first `held` keys.
-fn leg_place<'a>(highs: &'a [u64], lows: &'a [u64], held: usize, s: Series) -> usize
-    ensures { λ r. ⌜ r ≡ legPlace (now (highs .entry)) (now (lows .entry)) held s ⌝ }
-{
-    let k = series::halves_of(s);
-    halving::find(highs, lows, held, k.high, k.low)
-}
-
-// The sum over the pairs.
+// The sum over the pairs, with the rows of their legs.
 fn pairs_margin(
     charged: bool,
     pairs: [Pair; 128],
     paired: usize,
-    held: usize,
     quotes: [Quote; 128],
-    highs: [u64; 128],
-    lows: [u64; 128],
+    firsts: [usize; 128],
+    seconds: [usize; 128],
 ) -> Part
-    requires { ⌜ (paired ≤ 128) × ((j : ℕ) → j < paired → PairStands quotes highs lows held charged (getD pairs j noPair)) ⌝ }
-    ensures { λ r. ⌜ r ≡ partOf (allBelow (pairReadyAt quotes highs lows held pairs) paired) (sumBelow (pairComesAt quotes highs lows held pairs charged) paired) ⌝ }
+    requires { ⌜ (paired ≤ 128) × ((j : ℕ) → j < paired → PairStands quotes firsts seconds pairs charged j) ⌝ }
+    ensures { λ r. ⌜ r ≡ partOf (allBelow (pairReadyAt quotes firsts seconds pairs) paired) (sumBelow (pairComesAt quotes firsts seconds pairs charged) paired) ⌝ }
 {
     let mut sum = levels::same_at_all(0);
     let mut j: usize = 0;
     while j < paired {
         let p = pairs[j];
-        let a = p.first;
-        let b = p.second;
-        let first = quotes[leg_place(&highs, &lows, held, a)];
-        let second = quotes[leg_place(&highs, &lows, held, b)];
+        let first = quotes[firsts[j]];
+        let second = quotes[seconds[j]];
         if !pair_ready(p.kind, first, second) {
             return missing();
         }
@@ -295,8 +249,8 @@ fn pairs_margin(
 pub fn margin_on(b: Book, sheet: Sheet) -> Margin
     ensures { λ r. ⌜ r ≡ marginOn b sheet ⌝ }
 {
-    let c = sound::checked_book(b);
-    if !c.sound {
+    let w = sound::walked_book(b);
+    if !w.sound {
         return refused(16, 0);
     }
     if sheet.number != 0 {
@@ -307,16 +261,17 @@ pub fn margin_on(b: Book, sheet: Sheet) -> Margin
     }
     let holdings = b.holdings;
     let pairs = b.pairs;
-    let free = c.free;
-    let table = quote_rows(holdings, b.held, sheet);
-    let quotes = table.quotes;
-    let highs = table.highs;
-    let lows = table.lows;
+    let free = w.free;
+    let highs = w.highs;
+    let lows = w.lows;
+    let firsts = w.firsts;
+    let seconds = w.seconds;
+    let quotes = quote_rows(holdings, b.held, sheet, highs, lows);
     let loose = holdings_margin(free, b.held, quotes);
     if !loose.ready {
         return refused(14, 0);
     }
-    let tied = pairs_margin(true, pairs, b.paired, b.held, quotes, highs, lows);
+    let tied = pairs_margin(true, pairs, b.paired, quotes, firsts, seconds);
     if !tied.ready {
         return refused(14, 0);
     }

@@ -8,3 +8,6 @@ pub mod RowLaws
 pub mod SheetLaws
 pub mod TurnLaws
 pub mod StepLaws
+pub mod SameLaws
+pub mod HeadLaws
+pub mod QuoteLaws

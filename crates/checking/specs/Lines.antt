@@ -13,7 +13,7 @@ use Rattle.laws.specs.Checks.{Check, _unless_}
 use Rattle.lists.specs.Sorted.{ascending}
 use Rattle.dates.specs.Calendar.{isDay}
 use Rattle.codes.specs.declared.Class.{Class}
-use Rattle.codes.specs.Codes.{namesStock, isOptionClass, isStockFuture}
+use Rattle.codes.specs.Codes.{isOptionClass, isStockFuture}
 use Rattle.series.specs.Checks.{suits, classOf}
 use Rattle.series.specs.Key.{key}
 use Rattle.levels.specs.declared.Levels.{Levels}
@@ -28,7 +28,7 @@ use Rattle.sheets.specs.declared.FutureRow.{FutureRow}
 use Rattle.sheets.specs.declared.OptionRow.{OptionRow}
 use Rattle.sheets.specs.declared.StockRow.{StockRow}
 use Rattle.sheets.specs.declared.PriceRow.{PriceRow}
-use Rattle.sheets.specs.Rows.{futureCodes, optionCodes}
+use Rattle.sheets.specs.Rows.{futureCodes, optionCodes, twoCapitals}
 use Rattle.sheets.specs.Sheet.{placeIn}
 
 -- The forms of the lines, behind their letters.
@@ -143,10 +143,6 @@ rank formless = []
 
 abbrev pub among : List (List ℕ) → List ℕ → Bool
 among cs code = ltb (placeIn cs code) (length cs)
-
--- two capitals, and a 0 byte, as a code of two letters has
-unfoldable pub twoCapitals : List ℕ → Bool
-twoCapitals code = both (namesStock code) (eqb (getD code 2 0) 0)
 
 abbrev pub isQuoted : Class → Bool
 isQuoted class = either (isOptionClass class) (isStockFuture class)

@@ -22,8 +22,8 @@ use Rattle.sheets.specs.declared.OptionRow.{OptionRow}
 use Rattle.sheets.specs.declared.StockRow.{StockRow}
 use Rattle.sheets.specs.declared.PriceRow.{PriceRow}
 use Rattle.sheets.specs.declared.Sheet.{Sheet}
-use Rattle.sheets.specs.Rows.{futureCodes, optionCodes}
-use Rattle.checking.specs.Lines.{Line, lineOf, rank, among, twoCapitals, ownChecks, lineChecks}
+use Rattle.sheets.specs.Rows.{futureCodes, optionCodes, twoCapitals}
+use Rattle.checking.specs.Lines.{Line, lineOf, rank, among, ownChecks, lineChecks}
 
 -- Lines that may stand in a sheet: each passes its own checks, and they are in order.
 pub record Good (ls : List Line) : Type 0 where
@@ -54,9 +54,6 @@ withDay sheet day =
       futures = sheet .futures;
       options = sheet .options;
       stocks = sheet .stocks;
-      firsts = sheet .firsts;
-      seconds = sheet .seconds;
-      listed = sheet .listed;
       prices = sheet .prices;
       quoted = sheet .quoted;
     }
@@ -70,9 +67,6 @@ withFutures sheet futures =
       futures = futures;
       options = sheet .options;
       stocks = sheet .stocks;
-      firsts = sheet .firsts;
-      seconds = sheet .seconds;
-      listed = sheet .listed;
       prices = sheet .prices;
       quoted = sheet .quoted;
     }
@@ -86,15 +80,12 @@ withOptions sheet options =
       futures = sheet .futures;
       options = options;
       stocks = sheet .stocks;
-      firsts = sheet .firsts;
-      seconds = sheet .seconds;
-      listed = sheet .listed;
       prices = sheet .prices;
       quoted = sheet .quoted;
     }
 
-abbrev pub withStocks : Sheet → List StockLine → List ℕ → List ℕ → ℕ → Sheet
-withStocks sheet stocks firsts seconds listed =
+abbrev pub withStocks : Sheet → List StockLine → Sheet
+withStocks sheet stocks =
     record {
       number = sheet .number;
       line = sheet .line;
@@ -102,9 +93,6 @@ withStocks sheet stocks firsts seconds listed =
       futures = sheet .futures;
       options = sheet .options;
       stocks = stocks;
-      firsts = firsts;
-      seconds = seconds;
-      listed = listed;
       prices = sheet .prices;
       quoted = sheet .quoted;
     }
@@ -118,9 +106,6 @@ withPrices sheet prices quoted =
       futures = sheet .futures;
       options = sheet .options;
       stocks = sheet .stocks;
-      firsts = sheet .firsts;
-      seconds = sheet .seconds;
-      listed = sheet .listed;
       prices = prices;
       quoted = quoted;
     }

@@ -1,23 +1,24 @@
 -- Laws of a sheet's rows: a line that passes its checks behind lines that stand leaves lines that stand, whose sheet is the sheet before
 -- with that row in its place; and what is known of the rows of lines that stand.
-use mathlib.Core.Path.{_≡_, refl, ap, sym, _∙_, subst}
+use mathlib.Core.Path.{_≡_, refl, ap, sym, _∙_}
 use mathlib.Core.Bool.{Bool, true, false, not}
-use mathlib.Core.List.{List, [], _∷_, _++_, map, append-nil}
+use mathlib.Core.List.{List, [], _∷_, _++_, append-nil}
 use Prim.Native.Nat.{ℕ, _+_, _<_, _≤_}
 use native.Mathlib.Omega.{arith}
+use borrow.Author.Tests.{ne-eqb}
 use lib.Dec.{leb, eqb}
-use lib.ListN.{getD, length, set, length-append, length-map}
+use lib.ListN.{length, set, length-append}
 use Rattle.laws.specs.declared.Order.the-variants.{Less}
 use Rattle.laws.specs.Truth.{both, either}
 use Rattle.laws.specs.TruthLaws.{both-true, both-hold, clash}
+use Rattle.laws.specs.Bytes.{sameBytes}
 use Rattle.laws.specs.ByteLaws.{same-self}
 use Rattle.laws.specs.Checks.{allPass}
 use Rattle.laws.specs.CheckLaws.{pass-both}
 use Rattle.laws.specs.Search.{everyLine, gathered}
-use Rattle.laws.specs.SearchLaws.{every-joined}
+use Rattle.laws.specs.SearchLaws.{every-joined, every-weaker}
 use Rattle.laws.specs.Order.{orderOf, bytesOrder}
 use Rattle.laws.specs.OrderLaws.{apart}
-use Rattle.lists.specs.Places.{full}
 use Rattle.lists.specs.PlaceLaws.{set-end}
 use Rattle.lists.specs.Sorted.{ascending}
 use Rattle.lists.specs.LastLaws.{before-last}
@@ -35,10 +36,10 @@ use Rattle.sheets.specs.declared.OptionRow.{OptionRow}
 use Rattle.sheets.specs.declared.StockRow.{StockRow}
 use Rattle.sheets.specs.declared.PriceRow.{PriceRow}
 use Rattle.sheets.specs.declared.Sheet.{Sheet}
-use Rattle.sheets.specs.Rows.{noRows, futureCodes, optionCodes, found, nothing, noIndex, noStock, noPrice, clearingIn, indexIn}
-use Rattle.sheets.specs.Sheet.{futurePlace, optionPlace, laidOut}
-use Rattle.sheets.specs.TableLaws.{futures-differ, options-differ, table-set, found-last, found-others}
-use Rattle.checking.specs.Lines.{Line, head, future, option, stock, price, formless, rank, among, twoCapitals, isQuoted, ownChecks, isHead, checksBy, lineChecks}
+use Rattle.sheets.specs.Rows.{noRows, futureCodes, optionCodes, twoCapitals, found, nothing, noIndex, noStock, noPrice, clearingIn, indexIn, stockIn}
+use Rattle.sheets.specs.Sheet.{futurePlace, optionPlace, stockPlace, stockAt, laidOut}
+use Rattle.sheets.specs.TableLaws.{futures-differ, options-differ, table-set, found-last, found-others, tabled-set, place-below, stock-at-place}
+use Rattle.checking.specs.Lines.{Line, head, future, option, stock, price, formless, rank, among, isQuoted, ownChecks, isHead, checksBy, lineChecks}
 use Rattle.checking.specs.Reading.{futureRow, optionRow, stockRow, priceRow, dayOf, rowsOf}
 use Rattle.checking.specs.Next.{Good, goodFuture, goodOption, goodStock, goodPrice, withDay, withFutures, withOptions, withStocks, withPrices}
 use Rattle.checking.specs.GroupLaws.{gathered-more, gathered-every, Gives, none, row, gathered-fewer, gathered-ascends, row-new}
@@ -79,9 +80,6 @@ price-gives (option r) = none refl
 price-gives (stock r) = none refl
 price-gives (price r) = row r refl refl
 price-gives formless = none refl
-
-pub stocks-fewer : (ls : List Line) → length (gathered stockRow ls) ≤ length ls
-stocks-fewer ls = gathered-fewer stock-gives ls
 
 pub prices-fewer : (ls : List Line) → length (gathered priceRow ls) ≤ length ls
 prices-fewer ls = gathered-fewer price-gives ls
@@ -155,17 +153,6 @@ module _ (ls : List Line) where
   unfolding dayOf futureRow optionRow stockRow priceRow
   rows-price r = rows-more (price r) refl ∙ rw (append-nil (gathered futureRow ls), append-nil (gathered optionRow ls), append-nil (gathered stockRow ls))
 
--- One row more in an array with room.
-full-more : {A B : Type 0} (f : A → B) (d : B) (l : List A) (x : A) → length l < 1024 → set (full 1024 d (map f l)) (length l) (f x) ≡ full 1024 d (map f (l ++ (x ∷ [])))
-full-more {A} {B} f d l x lt =
-    let e = length-map l f in
-    subst (λ (n : ℕ). set (full 1024 d (map f l)) n (f x) ≡ full 1024 d (map f l ++ (f x ∷ []))) e (set-end 1024 d (f x) (map f l) (omega arith))
-    ∙ ap (full 1024 d) (sym (joined l))
-  where
-    joined : (m : List A) → map f (m ++ (x ∷ [])) ≡ map f m ++ (f x ∷ [])
-    joined [] = refl
-    joined (y ∷ m) = ap (λ (t : List B). f y ∷ t) (joined m)
-
 -- A D line stands first: none that is well in itself is before it.
 none-before : (y : Line) → allPass (ownChecks y) ≡ true → bytesOrder (rank y) (1 ∷ []) ≡ Less → ⊥
 unfolding rank ownChecks allPass bytesOrder orderOf
@@ -196,7 +183,7 @@ module _ {ls : List Line} (g : Good ls) (room : length ls < 1024) {sheet : Sheet
       (ap (withFutures (laidOut 0 0 (rowsOf ls)))
       (table-set (clearingIn rows) (clearingIn (rows ++ (r ∷ []))) (found (r .clearing)) (r .code)
       (found-last (λ (q : FutureRow). q .code) (λ (q : FutureRow). found (q .clearing)) nothing r rows (r .code) (same-self (r .code)) new)
-      (found-others (λ (q : FutureRow). q .code) (λ (q : FutureRow). found (q .clearing)) nothing r rows)
+      (λ d. found-others (λ (q : FutureRow). sameBytes (q .code) d) (λ (q : FutureRow). found (q .clearing)) nothing r rows)
       futureCodes futures-differ)
       ∙ ap (laidOut 0 0) (sym (rows-future ls r)))
 
@@ -209,28 +196,14 @@ module _ {ls : List Line} (g : Good ls) (room : length ls < 1024) {sheet : Sheet
       (ap (withOptions (laidOut 0 0 (rowsOf ls)))
       (table-set (indexIn rows) (indexIn (rows ++ (r ∷ []))) (r .line) (r .code)
       (found-last (λ (q : OptionRow). q .code) (λ (q : OptionRow). q .line) noIndex r rows (r .code) (same-self (r .code)) new)
-      (found-others (λ (q : OptionRow). q .code) (λ (q : OptionRow). q .line) noIndex r rows)
+      (λ d. found-others (λ (q : OptionRow). sameBytes (q .code) d) (λ (q : OptionRow). q .line) noIndex r rows)
       optionCodes options-differ)
       ∙ ap (laidOut 0 0) (sym (rows-option ls r)))
 
-  -- S and Q rows stand behind those before; there is room.
-  pub listed-room : sheet .listed < 1024
-  unfolding laidOut rowsOf
-  listed-room = rw is (let h = stocks-fewer ls in omega arith)
-
+  -- Q rows stand behind those before; there is room.
   pub quoted-room : sheet .quoted < 1024
   unfolding laidOut rowsOf
   quoted-room = rw is (let h = prices-fewer ls in omega arith)
-
-  pub stock-laid : (r : StockRow) → withStocks sheet (set (sheet .stocks) (sheet .listed) (r .line)) (set (sheet .firsts) (sheet .listed) (getD (r .code) 0 0)) (set (sheet .seconds) (sheet .listed) (getD (r .code) 1 0)) (sheet .listed + 1) ≡ laidOut 0 0 (rowsOf (ls ++ (stock r ∷ [])))
-  unfolding laidOut rowsOf
-  stock-laid r =
-      let rows = gathered stockRow ls in
-      let fewer = stocks-fewer ls in
-      let lt : length rows < 1024 = omega arith in
-      rw is
-      (rw (full-more (λ (q : StockRow). q .line) noStock rows r lt, full-more (λ (q : StockRow). getD (q .code) 0 0) 0 rows r lt, full-more (λ (q : StockRow). getD (q .code) 1 0) 0 rows r lt, sym (length-append rows (r ∷ [])))
-      (ap (laidOut 0 0) (sym (rows-stock ls r))))
 
   pub price-laid : (r : PriceRow) → withPrices sheet (set (sheet .prices) (sheet .quoted) r) (sheet .quoted + 1) ≡ laidOut 0 0 (rowsOf (ls ++ (price r ∷ [])))
   unfolding laidOut rowsOf
@@ -320,3 +293,36 @@ module _ {ls : List Line} (g : Good ls) where
 
   pub prices-good : everyLine goodPrice (gathered priceRow ls) ≡ true
   prices-good = gathered-every priceRow (λ (x : Line). allPass (ownChecks x)) goodPrice price-good ls (g .own)
+
+-- An S row stands at its code's place.
+module _ {ls : List Line} (g : Good ls) (r : StockRow) (e : allPass (lineChecks ls (stock r)) ≡ true) where
+  row-good : everyLine goodStock (r ∷ []) ≡ true
+  unfolding stockRow
+  row-good = stock-good (stock r) (line-passing ls (stock r) e .own)
+
+  is-two : (q : StockRow) → goodStock q ≡ true → twoCapitals (q .code) ≡ true
+  unfolding goodStock
+  is-two q t = both-true (twoCapitals (q .code)) _ t .0
+
+  all-two : everyLine (λ (q : StockRow). twoCapitals (q .code)) (gathered stockRow ls ++ (r ∷ [])) ≡ true
+  all-two = every-weaker goodStock _ is-two (gathered stockRow ls ++ (r ∷ [])) (every-joined goodStock (gathered stockRow ls) (r ∷ []) (stocks-good g) row-good)
+
+  two-here : twoCapitals (r .code) ≡ true
+  unfolding everyLine
+  two-here = is-two r (both-true (goodStock r) true row-good .0)
+
+  pub stocks-room : stockPlace (r .code) < 676
+  stocks-room = place-below (r .code) two-here
+
+  pub stock-laid : {sheet : Sheet} → sheet ≡ laidOut 0 0 (rowsOf ls) → withStocks sheet (set (sheet .stocks) (stockPlace (r .code)) (r .line)) ≡ laidOut 0 0 (rowsOf (ls ++ (stock r ∷ [])))
+  unfolding laidOut rowsOf stockRow stockAt stockIn
+  stock-laid is =
+      let rows = gathered stockRow ls in
+      let new = row-new stock-gives ls (stock r) r refl (line-passing ls (stock r) e .in-order) in
+      rw is
+      (ap (withStocks (laidOut 0 0 (rowsOf ls)))
+      (tabled-set (stockAt rows) (stockAt (rows ++ (r ∷ []))) 676 (stockPlace (r .code))
+      (stock-at-place (rows ++ (r ∷ [])) (r .code) all-two two-here
+      ∙ found-last (λ (q : StockRow). q .code) (λ (q : StockRow). q .line) noStock r rows (r .code) (same-self (r .code)) new)
+      (λ i n. found-others (λ (q : StockRow). eqb (stockPlace (q .code)) i) (λ (q : StockRow). q .line) noStock r rows (ne-eqb _ _ (λ is. n (sym is)))))
+      ∙ ap (laidOut 0 0) (sym (rows-stock ls r)))

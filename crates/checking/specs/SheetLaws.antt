@@ -8,27 +8,25 @@ use Prim.Native.Nat.{ℕ, suc, _<_}
 use native.Mathlib.Omega.{arith}
 use borrow.Author.Tests.{not-true, ltb-true, ne-eqb}
 use lib.Dec.{leb, ltb, eqb}
-use lib.ListN.{getD, length}
+use lib.ListN.{length}
 use lib.Seq.{append-snoc}
 use Rattle.laws.specs.Truth.{pick, both}
-use Rattle.laws.specs.TruthLaws.{both-true, both-hold, picked, by-test}
+use Rattle.laws.specs.TruthLaws.{both-true, picked, by-test}
 use Rattle.laws.specs.Checks.{Check, firstFailing, allPass}
 use Rattle.laws.specs.CheckLaws.{some-fails}
 use Rattle.laws.specs.SearchLaws.{every-weaker}
-use Rattle.codes.specs.Codes.{namesStock}
 use Rattle.series.specs.declared.Series.{Series}
 use Rattle.series.specs.Checks.{goodSeries}
 use Rattle.lines.specs.Parts.{lf, Parts, one, more, splitOn}
-use Rattle.sheets.specs.declared.StockRow.{StockRow}
 use Rattle.sheets.specs.Rows.{noRows, clearingIn, indexIn, stockIn, priceIn}
 use Rattle.sheets.specs.Sheet.{laidOut, clearingOn, indexOn, stockOn, priceOn}
 use Rattle.sheets.specs.LookupLaws.{Ordered, clearing-found, index-found, stock-found, price-found}
-use Rattle.checking.specs.Lines.{Line, lineOf, twoCapitals, lineChecks}
+use Rattle.checking.specs.Lines.{Line, lineOf, lineChecks}
 use Rattle.laws.specs.Search.{gathered}
 use Rattle.checking.specs.Reading.{futureRow, optionRow, stockRow, priceRow, rowsOf, Judged, refusedAt, accepted, judgeLines, judged, sheetOf, readText, checkText}
 use Rattle.checking.specs.Next.{Good, goodFuture, goodOption, goodStock, goodPrice, wellLines, wellText, linesIn}
 use Rattle.checking.specs.NumberLaws.{line-numbered}
-use Rattle.checking.specs.RowLaws.{no-lines, none-good, more-good, stocks-fewer, prices-fewer, futures-good, options-good, stocks-ascend, stocks-good, prices-ascend, prices-good}
+use Rattle.checking.specs.RowLaws.{no-lines, none-good, more-good, prices-fewer, futures-good, options-good, stocks-good, prices-ascend, prices-good}
 
 -- The lines of what is judged stand.
 lines-good : (before : List Line) (ps : Parts) → Good before → Good (judgeLines before ps .lines)
@@ -49,25 +47,16 @@ judged-good t =
     (λ q. picked (λ (j : Judged). Good (j .lines)) (eqb (length t) 0) _ _ (λ e. none-good) (λ e. lines-good [] (splitOn lf t) none-good))
     (λ q. none-good)
 
-two-bytes : (r : StockRow) → goodStock r ≡ true → both (eqb (length (r .code)) 3) (eqb (getD (r .code) 2 0) 0) ≡ true
-unfolding goodStock twoCapitals namesStock
-two-bytes r e =
-    let t = both-true (namesStock (r .code)) (eqb (getD (r .code) 2 0) 0) (both-true (twoCapitals (r .code)) _ e .0) in
-    both-hold (both-true (eqb (length (r .code)) 3) _ (t .0) .0) (t .1)
-
 -- Rows of lines that stand can be looked up.
 pub good-ordered : {ls : List Line} → Good ls → Ordered (rowsOf ls)
-unfolding rowsOf goodFuture goodOption goodPrice
+unfolding rowsOf goodFuture goodOption goodStock goodPrice
 good-ordered {ls} g =
     let few = g .few in
-    let s = stocks-fewer ls in
     let p = prices-fewer ls in
     record {
       futures-listed = every-weaker goodFuture _ (λ r e. both-true _ _ e .0) (gathered futureRow ls) (futures-good g);
       options-listed = every-weaker goodOption _ (λ r e. both-true _ _ e .0) (gathered optionRow ls) (options-good g);
-      stocks-few = omega arith;
-      stocks-order = stocks-ascend g;
-      stocks-two = every-weaker goodStock _ two-bytes (gathered stockRow ls) (stocks-good g);
+      stocks-two = every-weaker goodStock _ (λ r e. both-true _ _ e .0) (gathered stockRow ls) (stocks-good g);
       prices-few = omega arith;
       prices-order = prices-ascend g;
       prices-good = every-weaker goodPrice _ (λ r e. both-true _ _ e .0) (gathered priceRow ls) (prices-good g);
@@ -83,9 +72,9 @@ module _ (t : List ℕ) where
   unfolding readText sheetOf
   found-index code = index-found (judged t .number) (judged t .line) (good-ordered (judged-good t)) code
 
-  pub found-stock : (code : List ℕ) → length code ≡ 3 → stockOn (readText t) code ≡ stockIn (rowsOf (judged t .lines) .stocks) code
+  pub found-stock : (code : List ℕ) → stockOn (readText t) code ≡ stockIn (rowsOf (judged t .lines) .stocks) code
   unfolding readText sheetOf
-  found-stock code h = stock-found (judged t .number) (judged t .line) (good-ordered (judged-good t)) code h
+  found-stock code = stock-found (judged t .number) (judged t .line) (good-ordered (judged-good t)) code
 
   pub found-price : (s : Series) → goodSeries s ≡ true → priceOn (readText t) s ≡ priceIn (rowsOf (judged t .lines) .prices) s
   unfolding readText sheetOf

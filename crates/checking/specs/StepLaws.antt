@@ -32,7 +32,7 @@ use Rattle.sheets.specs.declared.StockRow.{StockRow}
 use Rattle.sheets.specs.declared.PriceRow.{PriceRow}
 use Rattle.sheets.specs.declared.Sheet.{Sheet}
 use Rattle.sheets.specs.Rows.{found, noRows}
-use Rattle.sheets.specs.Sheet.{futurePlace, optionPlace, laidOut}
+use Rattle.sheets.specs.Sheet.{futurePlace, optionPlace, stockPlace, laidOut}
 use Rattle.amounts.specs.declared.IndexLine.{IndexLine}
 use Rattle.checking.specs.Lines.{Line, head, future, option, stock, price, formless, figure, futureFrom, optionFrom, stockFrom, priceFrom, letterIn, formOf, said, lineOf, rank, ownChecks, checksBy, lineChecks}
 use Rattle.checking.specs.Reading.{rowsOf, refusedAt, accepted, judgeLines, judged, sheetOf, readText}
@@ -40,7 +40,7 @@ use Rattle.checking.specs.Facts.{kindTable, placeFor, fieldsFor, numberF
 use Rattle.checking.specs.Next.{Good, withDay, withFutures, withOptions, withStocks, withPrices}
 use Rattle.checking.specs.TurnLaws.{Letter, is-D, is-F, is-O, is-S, is-Q, form-few, form-at, line-formless, line-wrong, line-right, letter-known}
 use Rattle.checking.specs.NumberLaws.{line-numbered}
-use Rattle.checking.specs.RowLaws.{no-lines, none-good, more-good, head-laid, future-laid, option-laid, stock-laid, price-laid, listed-room, quoted-room}
+use Rattle.checking.specs.RowLaws.{no-lines, none-good, more-good, head-laid, future-laid, option-laid, stocks-room, stock-laid, price-laid, quoted-room}
 
 -- what comes of the text t
 abbrev pub answerOf : List ℕ → Sheet
@@ -277,25 +277,29 @@ module _ {t : List ℕ} {sheet : Sheet} {last : ℕ} {before : List Cell} {line 
     option-next l is e = rw (e, is) (next-line (says-option l) (option-laid (along .good) (here .room) (along .is) (optionFrom cells) (passes-as (says-option l))))
 
     -- An S line.
-    pub stock-room : sheet .listed < 1024
-    stock-room = listed-room (along .good) (here .room) (along .is)
+    pub stock-room : letter ≡ 83 → {r : StockRow} {n : ℕ} → r ≡ stockFrom cells → n ≡ stockPlace (r .code) → n < 676
+    stock-room l is e = rw (e, is) (stocks-room (along .good) (stockFrom cells) (passes-as (says-stock l)))
 
-    pub stock-next : letter ≡ 83 → {r : StockRow} → r ≡ stockFrom cells → AtLine t (withStocks sheet (set (sheet .stocks) (sheet .listed) (r .line)) (set (sheet .firsts) (sheet .listed) (getD (r .code) 0 0)) (set (sheet .seconds) (sheet .listed) (getD (r .code) 1 0)) (sheet .listed + 1)) letter cells line (end + 1)
-    stock-next l is = rw is (next-line (says-stock l) (stock-laid (along .good) (here .room) (along .is) (stockFrom cells)))
+    pub stock-next : letter ≡ 83 → {r : StockRow} {n : ℕ} → r ≡ stockFrom cells → n ≡ stockPlace (r .code) → AtLine t (withStocks sheet (set (sheet .stocks) n (r .line))) letter cells line (end + 1)
+    stock-next l is e = rw (e, is) (next-line (says-stock l) (stock-laid (along .good) (stockFrom cells) (passes-as (says-stock l)) (along .is)))
 
     -- A Q line.
     pub price-room : sheet .quoted < 1024
     price-room = quoted-room (along .good) (here .room) (along .is)
 
-    pub price-next : (letter ≡ 68 → ⊥) → (letter ≡ 70 → ⊥) → (letter ≡ 79 → ⊥) → (letter ≡ 83 → ⊥) → {r : PriceRow} → r ≡ priceFrom cells → AtLine t (withPrices sheet (set (sheet .prices) (sheet .quoted) r) (sheet .quoted + 1)) letter cells line (end + 1)
-    price-next d f o s is = rw is (next-line (says-price (the-last (q .known))) (price-laid (along .good) (here .room) (along .is) (priceFrom cells)))
-      where
-        the-last : Letter letter → letter ≡ 81
-        the-last (is-D l) = absurd (d l)
-        the-last (is-F l) = absurd (f l)
-        the-last (is-O l) = absurd (o l)
-        the-last (is-S l) = absurd (s l)
-        the-last (is-Q l) = l
+    pub price-next : letter ≡ 81 → {r : PriceRow} → r ≡ priceFrom cells → AtLine t (withPrices sheet (set (sheet .prices) (sheet .quoted) r) (sheet .quoted + 1)) letter cells line (end + 1)
+    price-next l is = rw is (next-line (says-price l) (price-laid (along .good) (here .room) (along .is) (priceFrom cells)))
+
+  -- It is Q where it is none of the others.
+  pub letter-Q : (letter ≡ 68 → ⊥) → (letter ≡ 70 → ⊥) → (letter ≡ 79 → ⊥) → (letter ≡ 83 → ⊥) → letter ≡ 81
+  letter-Q d f o s = the-last (q .known)
+    where
+      the-last : Letter letter → letter ≡ 81
+      the-last (is-D l) = absurd (d l)
+      the-last (is-F l) = absurd (f l)
+      the-last (is-O l) = absurd (o l)
+      the-last (is-S l) = absurd (s l)
+      the-last (is-Q l) = l
 
 -- A line that has not the form.
 line-formless-at : {t : List ℕ} {sheet : Sheet} {last : ℕ} {before : List Cell} {line at : ℕ} → InText t sheet last before line at → lineOf (lineAt t at) ≡ formless → laidOut 1 line noRows ≡ answerOf t

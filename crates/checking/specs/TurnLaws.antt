@@ -71,15 +71,15 @@ Found place k form = (place + k < 34) × (getD kindTable (place + k) Nothing ≡
 
 known-at : {letter : ℕ} (k : ℕ) → Letter letter → k ≤ length (formOf letter) → Found (placeFor letter) k (formOf letter)
 unfolding formOf placeFor kindTable headForm futureForm optionForm stockForm priceForm
-known-at k (is-D e) h = let few : k ≤ length headForm = rw e at h in rw e (omega arith, in-table kindTable headForm _ 0 refl k few)
-known-at k (is-F e) h = let few : k ≤ length futureForm = rw e at h in rw e (omega arith, in-table kindTable futureForm _ 2 refl k few)
-known-at k (is-O e) h = let few : k ≤ length optionForm = rw e at h in rw e (omega arith, in-table kindTable optionForm _ 5 refl k few)
-known-at k (is-S e) h = let few : k ≤ length stockForm = rw e at h in rw e (omega arith, in-table kindTable stockForm _ 18 refl k few)
-known-at k (is-Q e) h = let few : k ≤ length priceForm = rw e at h in rw e (omega arith, in-table kindTable priceForm _ 28 refl k few)
+known-at k (is-D e) h = let few : k ≤ length headForm = rw e at h in rw e (omega arith, in-table Nothing kindTable headForm _ 0 refl k few)
+known-at k (is-F e) h = let few : k ≤ length futureForm = rw e at h in rw e (omega arith, in-table Nothing kindTable futureForm _ 2 refl k few)
+known-at k (is-O e) h = let few : k ≤ length optionForm = rw e at h in rw e (omega arith, in-table Nothing kindTable optionForm _ 5 refl k few)
+known-at k (is-S e) h = let few : k ≤ length stockForm = rw e at h in rw e (omega arith, in-table Nothing kindTable stockForm _ 18 refl k few)
+known-at k (is-Q e) h = let few : k ≤ length priceForm = rw e at h in rw e (omega arith, in-table Nothing kindTable priceForm _ 28 refl k few)
 
 none-at : (k : ℕ) → k ≤ 0 → Found 33 k []
 unfolding kindTable headForm futureForm optionForm stockForm priceForm
-none-at k h = (omega arith, in-table kindTable [] _ 33 refl k h)
+none-at k h = (omega arith, in-table Nothing kindTable [] _ 33 refl k h)
 
 pub form-at : (letter k : ℕ) → k ≤ length (formOf letter) → Found (placeFor letter) k (formOf letter)
 form-at letter k h =

@@ -1,7 +1,8 @@
 // The reader of a sheet: line after line, field after field, left at the first refusal with its line.
 ghost use mathlib.Core.Path.{_≡_};
 ghost use mathlib.Core.List.{[]};
-ghost use Prim.Native.Nat.{_≤_};
+ghost use mathlib.Core.Bool.{true, false};
+ghost use Prim.Native.Nat.{_+_, _≤_};
 ghost use lib.ListN.{length, set};
 ghost use Rattle.laws.specs.Order.{isLess, bytesOrder};
 ghost use Rattle.laws.specs.Checks.{firstFailing};
@@ -9,9 +10,12 @@ ghost use Rattle.lines.specs.Parts.{lf, splitOn};
 ghost use Rattle.lines.specs.Fields.{fieldAt};
 ghost use Rattle.sheets.specs.Rows.{found};
 ghost use Rattle.sheets.specs.Sheet.{futurePlace, optionPlace};
-ghost use Rattle.checking.specs.Lines.{letterIn, head, future, option, stock, price, futureFrom, optionFrom, stockFrom, priceFrom, said, rank, twoCapitals, isQuoted, ownChecks};
+ghost use Rattle.checking.specs.Lines.{letterIn, cell, figure, head, future, option, stock, price, futureFrom, optionFrom, stockFrom, priceFrom, said, rank, isQuoted, ownChecks};
 ghost use Rattle.checking.specs.Reading.{judgeLines, sheetOf, readText, checkText};
 ghost use Rattle.checking.specs.Facts.{placeFor, fieldsFor, groupFor, numberFor};
+ghost use Rattle.checking.specs.SameLaws.{Agree};
+ghost use Rattle.checking.specs.HeadLaws.{partedAt, HeadIs, FiguresIs, NextIs};
+ghost use Rattle.checking.specs.QuoteLaws.{filled};
 use amounts::IndexLine;
 use amounts::StockLine;
 use codes::Class;
@@ -242,13 +246,6 @@ fn option_number(row: OptionRow) -> u8
     laws::unless(4, allowed, laws::unless(2, amounts::index_fits(line), 0))
 }
 
-// Whether a code is two capitals.
-fn two_capitals(code: [u8; 3]) -> bool
-    ensures { λ r. ⌜ r ≡ twoCapitals code ⌝ }
-{
-    laws::and(codes::names_stock(code), code[2] == 0)
-}
-
 fn stock_number(row: StockRow) -> u8
     ensures { λ r. ⌜ r ≡ firstFailing (ownChecks (stock row)) ⌝ }
 {
@@ -256,7 +253,7 @@ fn stock_number(row: StockRow) -> u8
     let line = row.line;
     laws::unless(
         4,
-        two_capitals(code),
+        sheets::two_capitals(code),
         laws::unless(2, amounts::stock_fits(line), 0),
     )
 }
@@ -362,7 +359,172 @@ fn with_option(rows: [IndexLine; 4], row: OptionRow) -> [IndexLine; 4]
     all
 }
 
-// Line after line. The letter and the cells of the line before go along with the rows.
+// Where it is right, the Q line of an option begins at `at`: a line that begins with the same fifteen bytes has its code and its date.
+struct Head {
+    right: bool,
+    at: usize,
+}
+
+fn no_head() -> Head
+    ensures { λ r. ⌜ r .right ≡ false ⌝ }
+{
+    Head {
+        right: false,
+        at: 0,
+    }
+}
+
+// Whether Q stands at `at`, and behind it a tab, three bytes, a tab, eight bytes and a tab.
+fn is_parted(t: &[u8], at: usize) -> bool
+    requires { ⌜ at + 17 ≤ length (now t) ⌝ }
+    ensures { λ r. ⌜ r ≡ partedAt (now (t .entry)) at ⌝ }
+{
+    let begins = laws::and(t[at] == b'Q', t[at + 1] == b'\t');
+    laws::and(begins, laws::and(t[at + 5] == b'\t', t[at + 14] == b'\t'))
+}
+
+// The head of the line that begins at `at` and has this letter and these cells, where it is an option's Q line.
+fn head_at(letter: u8, t: &[u8], at: usize, cells: [Cell; 12]) -> Head
+    requires { ⌜ at ≤ 65536 ⌝ }
+    ensures { λ r. ⌜ (r .right ≡ true → HeadIs (now (t .entry)) (r .at) letter (cell cells 0 .code) (figure cells 1)) ⌝ }
+{
+    if letter != b'Q' {
+        return no_head();
+    }
+    if t.len() < at + 17 {
+        return no_head();
+    }
+    if !is_parted(t, at) {
+        return no_head();
+    }
+    let code = lines::code_at(t, at + 2);
+    let date = lines::date_at(t, at + 6);
+    let c = code.cell;
+    let d = date.cell;
+    let first = cells[0];
+    let letters = c.code;
+    let said = first.code;
+    let product = codes::product_of(letters);
+    let class = product.class;
+    let placed = laws::and(code.stop == at + 5, date.stop == at + 14);
+    let same = laws::and(codes::same_code(letters, said), d.number == cells[1].number);
+    let fits = laws::and(codes::is_option_class(class), dates::is_day(d.number));
+    let known = laws::and(placed, laws::and(same, fits));
+    Head {
+        right: laws::and(laws::and(c.right, d.right), known),
+        at,
+    }
+}
+
+// Whether the eight bytes at two places are the same.
+fn same_eight(t: &[u8], a: usize, b: usize) -> bool
+    requires { ⌜ (a + 8 ≤ length (now t)) × (b + 8 ≤ length (now t)) ⌝ }
+    ensures { λ r. ⌜ (r ≡ true → Agree (now (t .entry)) a b 8) ⌝ }
+{
+    let mut same = true;
+    let mut k: usize = 0;
+    while k < 8 {
+        same = laws::and(same, t[a + k] == t[b + k]);
+        k += 1;
+    }
+    same
+}
+
+// What stands behind the head of an option's Q line: the mark, the strike and the price; and the place of its LF.
+struct Figures {
+    right: bool,
+    mark: u32,
+    strike: u32,
+    price: u32,
+    stop: usize,
+}
+
+fn no_figures() -> Figures
+    ensures { λ r. ⌜ r .right ≡ false ⌝ }
+{
+    Figures {
+        right: false,
+        mark: 0,
+        strike: 0,
+        price: 0,
+        stop: 0,
+    }
+}
+
+// The figures of the line that begins at `at`, where they have the form and are in their ranges.
+fn figures_at(t: &[u8], at: usize) -> Figures
+    requires { ⌜ at + 17 ≤ length (now t) ⌝ }
+    ensures { λ r. ⌜ (r .right ≡ true → FiguresIs (now (t .entry)) at (r .mark) (r .strike) (r .price) (r .stop)) ⌝ }
+{
+    let mark = t[at + 15] as u32;
+    if !laws::or(mark == b'C' as u32, mark == b'P' as u32) {
+        return no_figures();
+    }
+    if t[at + 16] != b'\t' {
+        return no_figures();
+    }
+    let strike = lines::number_at(t, at + 17);
+    let s = strike.cell;
+    if !laws::and(s.right, laws::in_range(1, 100000000, s.number)) {
+        return no_figures();
+    }
+    let end = strike.stop;
+    if t[end] != b'\t' {
+        return no_figures();
+    }
+    let price = lines::number_at(t, end + 1);
+    let p = price.cell;
+    if !laws::and(p.right, p.number <= 100000000) {
+        return no_figures();
+    }
+    let stop = price.stop;
+    if t[stop] != b'\n' {
+        return no_figures();
+    }
+    Figures {
+        right: true,
+        mark,
+        strike: s.number,
+        price: p.number,
+        stop,
+    }
+}
+
+// The figures of the line that begins at `at`, where it has the head's code and date, and comes after this mark and strike.
+fn next_figures(t: &[u8], head: Head, at: usize, mark: u32, strike: u32) -> Figures
+    requires { ⌜ (at ≤ 65536) × (head .right ≡ true → head .at + 17 ≤ length (now t)) ⌝ }
+    ensures { λ r. ⌜ (r .right ≡ true → (head .right ≡ true) × NextIs (now (t .entry)) (head .at) at mark strike (r .mark) (r .strike) (r .price) (r .stop)) ⌝ }
+{
+    if !head.right {
+        return no_figures();
+    }
+    if t.len() < at + 17 {
+        return no_figures();
+    }
+    if !laws::and(
+        same_eight(t, head.at, at),
+        same_eight(t, head.at + 7, at + 7),
+    ) {
+        return no_figures();
+    }
+    let f = figures_at(t, at);
+    let after = laws::or(mark < f.mark, laws::and(mark == f.mark, strike < f.strike));
+    if after { f } else { no_figures() }
+}
+
+// A cell of a number.
+fn number_cell(number: u32) -> Cell
+    ensures { λ r. ⌜ r ≡ filled number ⌝ }
+{
+    Cell {
+        right: true,
+        number,
+        code: [0, 0, 0],
+    }
+}
+
+// Line after line. The letter, the cells and the head of the line before go along with the rows. Most lines are taken at once by their
+// head and figures.
 fn read_lines(t: &[u8]) -> Sheet
     requires { ⌜ length (now t) ≤ 65536 ⌝ }
     ensures { λ r. ⌜ r ≡ sheetOf (judgeLines [] (splitOn lf (now (t .entry)))) ⌝ }
@@ -375,6 +537,7 @@ fn read_lines(t: &[u8]) -> Sheet
     let mut cells = [none; 12];
     let mut line: u32 = 0;
     let mut at: usize = 0;
+    let mut head = no_head();
     'lines: loop {
         if at == t.len() {
             break 'lines sheet;
@@ -382,6 +545,18 @@ fn read_lines(t: &[u8]) -> Sheet
         line += 1;
         if 1024 < line {
             break 'lines sheets::empty_sheet(2, line);
+        }
+        let f = next_figures(t, head, at, before[2].number, before[3].number);
+        if f.right {
+            before[2] = number_cell(f.mark);
+            before[3] = number_cell(f.strike);
+            before[4] = number_cell(f.price);
+            let r = price_row(before);
+            let q = sheet.quoted;
+            sheet.prices[q] = r;
+            sheet.quoted = q + 1;
+            at = f.stop + 1;
+            continue 'lines;
         }
         let mut stop = lines::stop_of(t, at);
         if stop == t.len() {
@@ -408,6 +583,7 @@ fn read_lines(t: &[u8]) -> Sheet
         if number != 0 {
             break 'lines sheets::empty_sheet(number, line);
         }
+        head = head_at(letter, t, at, cells);
         at = stop + 1;
         last = letter;
         before = cells;
@@ -428,14 +604,9 @@ fn read_lines(t: &[u8]) -> Sheet
         if letter == b'S' {
             let r = stock_row(cells);
             let code = r.code;
-            let first = code[0] as u64;
-            let second = code[1] as u64;
             let stock = r.line;
-            let n = sheet.listed;
+            let n = sheets::stock_place(code);
             sheet.stocks[n] = stock;
-            sheet.firsts[n] = first;
-            sheet.seconds[n] = second;
-            sheet.listed = n + 1;
             continue 'lines;
         }
         let r = price_row(cells);

@@ -84,7 +84,7 @@ fn say_stock(s: StockLine) {
     say_end(true);
 }
 
-// How many F rows, and how many O rows.
+// How many F rows, O rows and S rows.
 fn count_futures(rows: [Found; 8]) -> u64 {
     let mut n: u64 = 0;
     let mut i: usize = 0;
@@ -107,6 +107,17 @@ fn count_options(rows: [IndexLine; 4]) -> u64 {
     n
 }
 
+fn count_stocks(rows: [StockLine; 676]) -> u64 {
+    let mut n: u64 = 0;
+    let mut i: usize = 0;
+    while i < 676 {
+        let s = rows[i];
+        n = more(n, 0 < s.shares);
+        i += 1;
+    }
+    n
+}
+
 // One more where the test holds, up to a thousand.
 fn more(n: u64, test: bool) -> u64 {
     if test {
@@ -120,19 +131,23 @@ fn more(n: u64, test: bool) -> u64 {
 fn is_empty(sheet: Sheet) -> bool {
     let futures = sheet.futures;
     let options = sheet.options;
-    let by_place = laws::and(count_futures(futures) == 0, count_options(options) == 0);
-    let by_order = laws::and(sheet.listed == 0, sheet.quoted == 0);
-    laws::and(sheet.day == 0, laws::and(by_place, by_order))
+    let stocks = sheet.stocks;
+    let by_place = laws::and(
+        count_futures(futures) == 0,
+        laws::and(count_options(options) == 0, count_stocks(stocks) == 0),
+    );
+    laws::and(sheet.day == 0, laws::and(by_place, sheet.quoted == 0))
 }
 
 fn say_sheet(sheet: Sheet, good: bool) {
     let futures = sheet.futures;
     let options = sheet.options;
+    let stocks = sheet.stocks;
     say(b"R");
     say_day(sheet.day);
     say_number(count_futures(futures));
     say_number(count_options(options));
-    say_number(sheet.listed as u64);
+    say_number(count_stocks(stocks));
     say_number(sheet.quoted as u64);
     say_end(good);
 }
@@ -150,11 +165,8 @@ fn option_of(sheet: Sheet, code: [u8; 3]) -> IndexLine {
 
 fn stock_of(sheet: Sheet, code: [u8; 3]) -> StockLine {
     let rows = sheet.stocks;
-    let place = sheets::stock_place(&sheet.firsts, &sheet.seconds, sheet.listed, code);
-    if sheet.listed <= place {
-        return sheets::no_stock();
-    }
-    if place < 1024 {
+    let place = sheets::stock_place(code);
+    if place < 676 {
         rows[place]
     } else {
         sheets::no_stock()

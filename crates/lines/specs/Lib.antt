@@ -8,3 +8,5 @@ pub mod CellLaws
 pub mod PartLaws
 pub mod FieldLaws
 pub mod LoopLaws
+pub mod Behind
+pub mod BehindLaws

@@ -142,7 +142,7 @@ module _ (kind : Kind) (t : List ℕ) (from : ℕ) {f : Field} (is : f ≡ field
   unfolding fieldAt fieldWith
   is-with b e = is ∙ rw e
 
-  read-right : not (f .cell .right) ≡ false → (stopOf t from < length t) × ((f .stop ≡ stopOf t from) × (f .cell ≡ cellOf kind (fieldText t from)))
+  pub read-right : not (f .cell .right) ≡ false → (stopOf t from < length t) × ((f .stop ≡ stopOf t from) × (f .cell ≡ cellOf kind (fieldText t from)))
   unfolding cellOf
   read-right e =
       by-test (λ (b : Bool). both (ltb (stopOf t from) (length t)) (cellOf kind (fieldText t from) .right) ≡ b → (stopOf t from < length t) × ((f .stop ≡ stopOf t from) × (f .cell ≡ cellOf kind (fieldText t from)))) _
@@ -256,12 +256,13 @@ module _ {letterIn : List ℕ → ℕ} {formOf : ℕ → List Kind} {room : ℕ}
       pub line-done : length (lineAt t at) ≤ stop - at
       line-done = let e = line-end in let l = line-length t at line-low in omega arith
 
--- A table of kinds, in which the kinds of a form and then Nothing stand from a place on, has the kinds of the form.
-form-then : (form rest : List Kind) (k : ℕ) → k ≤ length form → getD (form ++ (Nothing ∷ rest)) k Nothing ≡ getD form k Nothing
-form-then [] rest zero h = refl
-form-then [] rest (suc k) h = absurd (omega arith)
-form-then (x ∷ form) rest zero h = refl
-form-then (x ∷ form) rest (suc k) h = form-then form rest k (omega arith)
+-- A table in which the entries of a form and then an empty one stand from a place on has the entries of the form there.
+module _ {A : Type 0} (none : A) where
+  form-then : (form rest : List A) (k : ℕ) → k ≤ length form → getD (form ++ (none ∷ rest)) k none ≡ getD form k none
+  form-then [] rest zero h = refl
+  form-then [] rest (suc k) h = absurd (omega arith)
+  form-then (x ∷ form) rest zero h = refl
+  form-then (x ∷ form) rest (suc k) h = form-then form rest k (omega arith)
 
-pub in-table : (table form rest : List Kind) (place : ℕ) → drop place table ≡ form ++ (Nothing ∷ rest) → (k : ℕ) → k ≤ length form → getD table (place + k) Nothing ≡ getD form k Nothing
-in-table table form rest place e k h = sym (getD-drop place table k Nothing) ∙ ap (λ (l : List Kind). getD l k Nothing) e ∙ form-then form rest k h
+  pub in-table : (table form rest : List A) (place : ℕ) → drop place table ≡ form ++ (none ∷ rest) → (k : ℕ) → k ≤ length form → getD table (place + k) none ≡ getD form k none
+  in-table table form rest place e k h = sym (getD-drop place table k none) ∙ ap (λ (l : List A). getD l k none) e ∙ form-then form rest k h

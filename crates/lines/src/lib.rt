@@ -1,12 +1,13 @@
 // Lines and fields: where a line or a field ends, what stands in a field, and the series that four fields write.
 ghost use mathlib.Core.Path.{_≡_};
-ghost use Prim.Native.Nat.{_≤_};
-ghost use lib.ListN.{length};
+ghost use Prim.Native.Nat.{_≤_, _<_};
+ghost use lib.ListN.{length, getD};
 ghost use Rattle.laws.specs.Bytes.{sameBytes};
 ghost use Rattle.digits.specs.Digits.{isFixed};
 ghost use Rattle.lines.specs.declared.Kind.the-variants.{Number, Account, Date, Code, Mark};
 ghost use Rattle.lines.specs.Parts.{nextOf, stopOf, stopsAt};
 ghost use Rattle.lines.specs.Fields.{codeIn, markIn, numberCell, noCell, cellOf, noField, numberField, fieldAt, figureAt, natureOf, seriesOf};
+ghost use Rattle.lines.specs.Behind.{fieldBehind, chainBehind, seriesForm, writtenIn};
 ghost use Rattle.lines.specs.RunLaws.{RunIs};
 use digits::Figure;
 use series::Nature;
@@ -32,6 +33,13 @@ pub struct Cell {
 // A field in a text: what stands in it, and the place of the tab or LF behind it.
 pub struct Field {
     pub cell: Cell,
+    pub stop: usize,
+}
+
+// The series that four fields of a text write, whether they have their form, and the place of the tab or LF behind them.
+pub struct Written {
+    pub right: bool,
+    pub series: Series,
     pub stop: usize,
 }
 
@@ -319,5 +327,77 @@ pub fn series_of(code: Cell, date: Cell, mark: Cell, strike: Cell) -> Series
         code: letters,
         date: date.number,
         nature: nature_of(mark.number, strike.number),
+    }
+}
+
+// The byte at i, or 0 behind the end of the text.
+fn byte_at(t: &[u8], i: usize) -> u8
+    ensures { λ r. ⌜ (r ≡ getD (now (t .entry)) i 0) × ((r ≡ 0 → ⊥) → i < length (now (t .entry))) ⌝ }
+{
+    if i < t.len() { t[i] } else { 0 }
+}
+
+// The number field behind the tab at `at`; so the fields of the other kinds.
+pub fn number_behind(t: &[u8], at: usize) -> Field
+    ensures { λ r. ⌜ r ≡ fieldBehind Number (now (t .entry)) at ⌝ }
+{
+    if byte_at(t, at) != b'\t' {
+        return no_field();
+    }
+    number_at(t, at + 1)
+}
+
+pub fn account_behind(t: &[u8], at: usize) -> Field
+    ensures { λ r. ⌜ r ≡ fieldBehind Account (now (t .entry)) at ⌝ }
+{
+    if byte_at(t, at) != b'\t' {
+        return no_field();
+    }
+    account_at(t, at + 1)
+}
+
+pub fn date_behind(t: &[u8], at: usize) -> Field
+    ensures { λ r. ⌜ r ≡ fieldBehind Date (now (t .entry)) at ⌝ }
+{
+    if byte_at(t, at) != b'\t' {
+        return no_field();
+    }
+    date_at(t, at + 1)
+}
+
+fn code_behind(t: &[u8], at: usize) -> Field
+    ensures { λ r. ⌜ r ≡ fieldBehind Code (now (t .entry)) at ⌝ }
+{
+    if byte_at(t, at) != b'\t' {
+        return no_field();
+    }
+    code_at(t, at + 1)
+}
+
+pub fn mark_behind(t: &[u8], at: usize) -> Field
+    ensures { λ r. ⌜ r ≡ fieldBehind Mark (now (t .entry)) at ⌝ }
+{
+    if byte_at(t, at) != b'\t' {
+        return no_field();
+    }
+    mark_at(t, at + 1)
+}
+
+// The series that the four fields behind the tab at `at` write.
+pub fn series_behind(t: &[u8], at: usize) -> Written
+    ensures { λ r. ⌜ r ≡ writtenIn (chainBehind seriesForm (now (t .entry)) at) ⌝ }
+{
+    let code = code_behind(t, at);
+    let date = date_behind(t, code.stop);
+    let mark = mark_behind(t, date.stop);
+    let strike = number_behind(t, mark.stop);
+    let c = code.cell;
+    let d = date.cell;
+    let m = mark.cell;
+    let k = strike.cell;
+    Written {
+        right: laws::and(c.right, laws::and(d.right, laws::and(m.right, k.right))),
+        series: series_of(c, d, m, k),
+        stop: strike.stop,
     }
 }

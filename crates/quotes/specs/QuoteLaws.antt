@@ -4,8 +4,7 @@ use mathlib.Core.Bool.{Bool, true, false}
 use mathlib.Core.List.{List}
 use Prim.Native.Nat.{ℕ}
 use lib.Dec.{eqb, leb}
-use lib.ListN.{length, getD}
-use borrow.Author.Tests.{eqb-true}
+use lib.ListN.{getD}
 use Rattle.laws.specs.Truth.{pick, both}
 use Rattle.laws.specs.TruthLaws.{clash, both-true, both-hold, both-end, picked}
 use Rattle.laws.specs.Text.{byte}
@@ -134,12 +133,6 @@ part-fits : (code : List ℕ) → known (productOf code .class) ≡ true → par
 unfolding everyLine listed partFits
 part-fits code =
     product-has (λ (p : Product). known (p .class) ≡ true → partFits (p .part) ≡ true) (λ (p : Product). partFits (p .part)) code refl (λ p t k. t) (λ c k. refl) (λ k. absurd (clash k refl))
-
--- A parent is three bytes.
-pub parent-three : (s : Series) → length (productOf (s .code) .parent) ≡ 3
-unfolding everyLine listed
-parent-three s =
-    product-has (λ (p : Product). length (p .parent) ≡ 3) (λ (p : Product). eqb (length (p .parent)) 3) (s .code) refl (λ p t. eqb-true _ _ t) (λ c. refl) refl
 
 -- The lot of a series whose own line is on the sheet is taken,
 pub lot-taken : (v : View) (s : Series) → goodSeries s ≡ true → quoteOf v s .lined ≡ true → lotFits (quoteOf v s .lot) ≡ true

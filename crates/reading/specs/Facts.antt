@@ -1,7 +1,7 @@
 -- What the parts of the reader ask and answer: a line's letter and form, its number, and where free lots stand (document 01, "Text").
-use mathlib.Core.Bool.{Bool, not}
+use mathlib.Core.Bool.{Bool, true, false, not}
 use mathlib.Core.List.{List, [], _∷_, _++_}
-use Prim.Native.Nat.{ℕ, _+_, _-_, _*_, _%_}
+use Prim.Native.Nat.{ℕ, _+_, _-_, _*_}
 use lib.Dec.{leb, ltb, eqb}
 use lib.ListN.{getD, set}
 use Rattle.laws.specs.Truth.{pick, both}
@@ -11,7 +11,8 @@ use Rattle.laws.specs.Checks.{Check, _unless_, firstFailing}
 use Rattle.lists.specs.Sorted.{after}
 use Rattle.dates.specs.Calendar.{isDay}
 use Rattle.codes.specs.Codes.{known}
-use Rattle.series.specs.declared.Series.{Series}
+use Rattle.series.specs.declared.Series.{Series as SeriesType}
+use Rattle.series.specs.declared.Nature.the-variants.{Future}
 use Rattle.series.specs.declared.Side.{Side}
 use Rattle.series.specs.declared.Side.the-variants.{Long, Short}
 use Rattle.series.specs.Checks.{suits, classOf}
@@ -19,38 +20,105 @@ use Rattle.pairing.specs.Rules.{partsOf, pairChecks}
 use Rattle.pairing.specs.Sides.{firstSide, secondSide}
 use Rattle.rows.specs.declared.Holding.{Holding}
 use Rattle.rows.specs.declared.Pair.{Pair}
-use Rattle.rows.specs.declared.Book.{Book}
-use Rattle.rows.specs.Rows.{holdingRank, pairRank, noLots}
-use Rattle.rows.specs.Book.{emptyBook}
+use Rattle.rows.specs.Rows.{holdingRank, pairRank, noLots, emptySeries}
 use Rattle.rules.specs.Rules.{isIdentity, countsFit}
 use Rattle.halving.specs.Halving.{findIn}
 use Rattle.sound.specs.Walk.{halves}
 use Rattle.lines.specs.declared.Kind.{Kind}
-use Rattle.lines.specs.declared.Kind.the-variants.{Nothing}
-use Rattle.lines.specs.declared.Cell.{Cell}
-use Rattle.reading.specs.Reading.{headForm, holdingForm, pairForm, cell, holdingIn, pairIn}
+use Rattle.lines.specs.declared.Kind.the-variants as kind
+use Rattle.lines.specs.declared.Field.{Field}
+use Rattle.lines.specs.declared.Written.{Written}
+use Rattle.lines.specs.Fields.{noField}
+use Rattle.lines.specs.Behind.{fieldBehind, chainBehind, seriesForm, writtenIn}
+use Rattle.reading.specs.declared.Part.{Part}
+use Rattle.reading.specs.declared.Part.the-variants.{Nothing, Number, Account, Mark, Date, Series}
+use Rattle.reading.specs.declared.Item.{Item}
+use Rattle.reading.specs.Reading.{headForm, holdingForm, pairForm}
 
--- a line's letter, or 0; the form of the fields behind it, and how many they are
+-- a line's letter, or 0, and the form of the fields behind it
 unfoldable pub letterIn : List ℕ → ℕ
 letterIn f = pick (sameBytes f (bytes "A")) (byte "A") (pick (sameBytes f (bytes "H")) (byte "H") (pick (sameBytes f (bytes "M")) (byte "M") 0))
 
 unfoldable pub formFor : ℕ → List Kind
 formFor letter = pick (eqb letter (byte "A")) headForm (pick (eqb letter (byte "H")) holdingForm (pick (eqb letter (byte "M")) pairForm []))
 
--- the kinds of all forms, one form behind the other, with Nothing between and behind them; and where those of a letter begin
-unfoldable pub kindTable : List Kind
-kindTable = headForm ++ (Nothing ∷ (holdingForm ++ (Nothing ∷ (pairForm ++ (Nothing ∷ [])))))
+-- The form of a letter's line as the paper writes it: SERIES is one part, of four fields.
+
+unfoldable pub partsFor : ℕ → List Part
+partsFor letter =
+    pick (eqb letter (byte "A")) (Account ∷ Mark ∷ Date ∷ [])
+    (pick (eqb letter (byte "H")) (Series ∷ Number ∷ Number ∷ [])
+    (pick (eqb letter (byte "M")) (Number ∷ Series ∷ Series ∷ Number ∷ Number ∷ Number ∷ []) []))
+
+-- the parts of all forms, one form behind the other, with Nothing between and behind them; where those of a letter begin, and how many they are
+unfoldable pub partTable : List Part
+partTable = partsFor (byte "A") ++ (Nothing ∷ (partsFor (byte "H") ++ (Nothing ∷ (partsFor (byte "M") ++ (Nothing ∷ [])))))
 
 unfoldable pub placeFor : ℕ → ℕ
-placeFor letter = pick (eqb letter (byte "A")) 0 (pick (eqb letter (byte "H")) 4 (pick (eqb letter (byte "M")) 11 23))
+placeFor letter = pick (eqb letter (byte "A")) 0 (pick (eqb letter (byte "H")) 4 (pick (eqb letter (byte "M")) 8 14))
 
-unfoldable pub fieldsFor : ℕ → ℕ
-fieldsFor letter = pick (eqb letter (byte "A")) 3 (pick (eqb letter (byte "H")) 6 (pick (eqb letter (byte "M")) 12 13))
+unfoldable pub partsCount : ℕ → ℕ
+partsCount letter = pick (eqb letter (byte "A")) 3 (pick (eqb letter (byte "H")) 3 (pick (eqb letter (byte "M")) 6 7))
+
+-- What a part writes: a number or a series.
+
+abbrev pub numberItem : Field → Item
+numberItem f = record { right = f .cell .right; number = f .cell .number; series = emptySeries; stop = f .stop }
+
+abbrev pub seriesItem : Written → Item
+seriesItem w = record { right = w .right; number = 0; series = w .series; stop = w .stop }
+
+abbrev pub noItem : Item
+noItem = numberItem noField
+
+-- the part behind the tab at `at`
+unfoldable pub itemBehind : Part → List ℕ → ℕ → Item
+itemBehind Nothing t at = noItem
+itemBehind Number t at = numberItem (fieldBehind kind.Number t at)
+itemBehind Account t at = numberItem (fieldBehind kind.Account t at)
+itemBehind Mark t at = numberItem (fieldBehind kind.Mark t at)
+itemBehind Date t at = numberItem (fieldBehind kind.Date t at)
+itemBehind Series t at = seriesItem (writtenIn (chainBehind seriesForm t at))
+
+-- Parts one behind the other: whether each has its form, what they write, and the place behind the last.
+pub record Items : Type 0 where
+  pub right : Bool
+  pub items : List Item
+  pub stop : ℕ
+
+unfoldable pub itemsBehind : List Part → List ℕ → ℕ → Items
+itemsBehind [] t at = record { right = true; items = []; stop = at }
+itemsBehind (p ∷ ps) t at =
+    record {
+      right = both (itemBehind p t at .right) (itemsBehind ps t (itemBehind p t at .stop) .right);
+      items = itemBehind p t at ∷ itemsBehind ps t (itemBehind p t at .stop) .items;
+      stop = itemsBehind ps t (itemBehind p t at .stop) .stop;
+    }
+
+-- what the part i writes; nothing behind the last
+abbrev pub item : List Item → ℕ → Item
+item is i = getD is i (record { right = false; number = 0; series = record { code = []; date = 0; nature = Future }; stop = 0 })
+
+-- what the items of an H line and of an M line say
+
+unfoldable pub holdingOf : List Item → Holding
+holdingOf is = record { series = item is 0 .series; long = item is 1 .number; short = item is 2 .number }
+
+unfoldable pub pairOf : List Item → Pair
+pairOf is =
+    record {
+      kind = item is 0 .number;
+      first = item is 1 .series;
+      second = item is 2 .series;
+      r1 = item is 3 .number;
+      r2 = item is 4 .number;
+      units = item is 5 .number;
+    }
 
 -- The checks of a line but the last of an M line, with what the book before it has to tell: how many rows, and the last of them.
 
-unfoldable pub numberOfHead : List Cell → Bool → ℕ
-numberOfHead cs first = firstFailing (5 unless isDay (cell cs 2 .number) ∷ 2 unless isIdentity (cell cs 1 .number) ∷ 3 unless first ∷ [])
+unfoldable pub numberOfHead : ℕ → ℕ → Bool → ℕ
+numberOfHead identity day first = firstFailing (5 unless isDay day ∷ 2 unless isIdentity identity ∷ 3 unless first ∷ [])
 
 unfoldable pub numberOfHolding : Holding → Holding → Bool → ℕ → ℕ → ℕ
 numberOfHolding h last first held paired =
@@ -85,23 +153,12 @@ pairChecksButLots p last first paired =
 unfoldable pub numberOfPair : Pair → Pair → Bool → ℕ → ℕ
 numberOfPair p last first paired = firstFailing (pairChecksButLots p last first paired)
 
--- by the letter; `before` is what stood in the line before
-unfoldable pub numberFor : ℕ → List Cell → List Cell → Bool → ℕ → ℕ → ℕ
-numberFor letter cs before first held paired =
-    pick (eqb letter (byte "A")) (numberOfHead cs first)
-    (pick (eqb letter (byte "H")) (numberOfHolding (holdingIn cs) (holdingIn before) first held paired)
-    (numberOfPair (pairIn cs) (pairIn before) first paired))
-
--- the book of an A line
-unfoldable pub headBook : List Cell → Book
-headBook cs = emptyBook (cell cs 0 .number) (cell cs 1 .number % 256) (cell cs 2 .number)
-
 -- where the free lots of a row and side stand, and those of a series and side; 256, where nothing stands, if it is not held
 unfoldable pub slot : ℕ → Side → ℕ
 slot row Long = 2 * row
 slot row Short = 2 * row + 1
 
-unfoldable pub slotAt : List ℕ → List ℕ → ℕ → Series → Side → ℕ
+unfoldable pub slotAt : List ℕ → List ℕ → ℕ → SeriesType → Side → ℕ
 slotAt highs lows held s d =
     pick (ltb (findIn highs lows held (halves s)) held) (slot (findIn highs lows held (halves s)) d) 256
 

@@ -6,7 +6,9 @@ pub mod NextLaws
 pub mod PassLaws
 pub mod FormLaws
 pub mod KeepLaws
+pub mod LineLaws
 pub mod TurnLaws
+pub mod ItemLaws
 pub mod SlotLaws
 pub mod FreeLaws
 pub mod StateLaws

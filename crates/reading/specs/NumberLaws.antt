@@ -22,8 +22,7 @@ use Rattle.rows.specs.Book.{holdingsOf, pairsOf}
 use Rattle.rules.specs.Lots.{firstLeg, secondLeg}
 use Rattle.rules.specs.Rules.{countsFit}
 use Rattle.calls.specs.Calls.{legFree}
-use Rattle.lines.specs.declared.Cell.{Cell}
-use Rattle.reading.specs.Reading.{holding, pair, headIn, lineChecks}
+use Rattle.reading.specs.Reading.{head, holding, pair, lineChecks}
 use Rattle.reading.specs.Facts.{worse, numberOfHead, numberOfHolding, pairChecksButLots, numberOfPair}
 
 -- a series' number by its three tests
@@ -75,9 +74,9 @@ but-lots-numbered p last first paired = refl
 
 -- The number of a line is that of its first check that fails; of an M line, of the checks before the last.
 module _ (first : Bool) (b : Book) where
-  pub head-number-is : (cs : List Cell) → numberOfHead cs first ≡ firstFailing (lineChecks first b (headIn cs))
-  unfolding numberOfHead lineChecks headIn
-  head-number-is cs = refl
+  pub head-number-is : (account identity day : ℕ) → numberOfHead identity day first ≡ firstFailing (lineChecks first b (head account identity day))
+  unfolding numberOfHead lineChecks
+  head-number-is account identity day = refl
 
   pub holding-number-of : (h last : Holding) → (b .paired ≡ 0 → after holdingRank (b .held) last h ≡ ascending holdingRank (holdingsOf b ++ (h ∷ []))) → numberOfHolding h last first (b .held) (b .paired) ≡ firstFailing (lineChecks first b (holding h))
   unfolding numberOfHolding lineChecks

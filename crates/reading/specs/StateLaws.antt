@@ -1,4 +1,4 @@
--- Laws of what goes along with the book from line to line: the keys and free lots of its holdings, and what stood in the line before.
+-- Laws of what goes along with the book from line to line: the keys and free lots of its holdings.
 use mathlib.Core.Path.{_≡_, refl, ap, sym, _∙_, subst}
 use mathlib.Core.Bool.{Bool, true}
 use mathlib.Core.List.{List, [], _∷_, _++_}
@@ -38,27 +38,24 @@ use Rattle.sound.specs.Walk.{noRow, noPair, Keyed}
 use Rattle.sound.specs.KeyedLaws.{keyed-starts, keyed-next}
 use Rattle.sound.specs.WalkLaws.{rows-long}
 use Rattle.calls.specs.Calls.{legFree}
-use Rattle.lines.specs.declared.Cell.{Cell}
-use Rattle.reading.specs.Reading.{holding, pair, cell, headIn, holdingIn, pairIn, lineChecks, withLine}
-use Rattle.reading.specs.Facts.{numberOfPair, numberFor, headBook, slot, firstSlot, secondSlot, legsFound, lessAt, lessLegs}
+use Rattle.reading.specs.Reading.{head, holding, pair, lineChecks, withLine}
+use Rattle.reading.specs.Facts.{numberOfHolding, numberOfPair, slot, firstSlot, secondSlot, legsFound, lessAt, lessLegs}
 use Rattle.reading.specs.Next.{NextHolding, NextPair}
-use Rattle.reading.specs.NumberLaws.{head-number-is, holding-number-of, pair-number-of}
+use Rattle.reading.specs.NumberLaws.{holding-number-of, pair-number-of}
 use Rattle.reading.specs.FreeLaws.{slot-has, leg-takes}
 
 -- What goes along with the book b.
-pub record Along (b : Book) (highs lows free : List ℕ) (before : List Cell) : Type 0 where
+pub record Along (b : Book) (highs lows free : List ℕ) : Type 0 where
   pub sound : Sound b
   pub highs-long : length highs ≡ 128
   pub lows-long : length lows ≡ 128
   pub free-long : length free ≡ 256
   pub keyed : Keyed noRow (b .holdings) (b .held) highs lows
   pub lots : (i : ℕ) (d : Side) → i < b .held → getD free (slot i d) 0 ≡ lotsOn d (getD (b .holdings) i noRow) - tied (pairsOf b) (getD (b .holdings) i noRow .series) d
-  pub last-holding : b .paired ≡ 0 → 0 < b .held → holdingRank (holdingIn before) ≡ holdingRank (getD (b .holdings) (b .held - 1) noRow)
-  pub last-pair : 0 < b .paired → pairRank (pairIn before) ≡ pairRank (getD (b .pairs) (b .paired - 1) noPair)
 
 -- Of an empty book nothing goes along.
-pub along-empty : (b : Book) (highs lows free : List ℕ) (before : List Cell) → Sound b → b .held ≡ 0 → b .paired ≡ 0 → length highs ≡ 128 → length lows ≡ 128 → length free ≡ 256 → Along b highs lows free before
-along-empty b highs lows free before s h p hl ll fl =
+pub along-empty : (b : Book) (highs lows free : List ℕ) → Sound b → b .held ≡ 0 → b .paired ≡ 0 → length highs ≡ 128 → length lows ≡ 128 → length free ≡ 256 → Along b highs lows free
+along-empty b highs lows free s h p hl ll fl =
     record {
       sound = s;
       highs-long = hl;
@@ -66,8 +63,6 @@ along-empty b highs lows free before s h p hl ll fl =
       free-long = fl;
       keyed = subst (λ (n : ℕ). Keyed noRow (b .holdings) n highs lows) (sym h) (keyed-starts noRow (b .holdings) highs lows);
       lots = λ i d lt. absurd (omega arith);
-      last-holding = λ z lt. absurd (omega arith);
-      last-pair = λ lt. absurd (omega arith);
     }
 
 -- A row after the last one, by any row of the last one's rank.
@@ -78,38 +73,29 @@ after-same rank n x y z e =
     (λ q f. let k = eqb-false n 0 f in ap (λ (r : List ℕ). isLess (bytesOrder r (rank z))) (e (omega arith)))
     refl
 
-module _ {b : Book} {highs lows free : List ℕ} {before : List Cell} (a : Along b highs lows free before) where
-  after-holdings : (h : Holding) → b .paired ≡ 0 → after holdingRank (b .held) (holdingIn before) h ≡ ascending holdingRank (holdingsOf b ++ (h ∷ []))
+-- A row after the last one of the book.
+module _ {b : Book} (sound : Sound b) where
+  after-holdings : (h : Holding) → after holdingRank (b .held) (getD (b .holdings) (b .held - 1) noRow) h ≡ ascending holdingRank (holdingsOf b ++ (h ∷ []))
   unfolding holdingsOf
-  after-holdings h none =
-      let s = a .sound in
-      after-same holdingRank (b .held) (holdingIn before) (getD (holdingsOf b) (b .held - 1) noRow) h
-      (λ lt. a .last-holding none lt ∙ ap holdingRank (sym (getD-take (b .held) (b .holdings) (b .held - 1) noRow (omega arith))))
-      ∙ sym (ascends-after holdingRank h noRow (holdingsOf b) (b .held) (holdings-count s) (holdings-order s))
+  after-holdings h =
+      after-same holdingRank (b .held) (getD (b .holdings) (b .held - 1) noRow) (getD (holdingsOf b) (b .held - 1) noRow) h
+      (λ lt. ap holdingRank (sym (getD-take (b .held) (b .holdings) (b .held - 1) noRow (omega arith))))
+      ∙ sym (ascends-after holdingRank h noRow (holdingsOf b) (b .held) (holdings-count sound) (holdings-order sound))
 
-  after-pairs : (p : Pair) → after pairRank (b .paired) (pairIn before) p ≡ ascending pairRank (pairsOf b ++ (p ∷ []))
+  after-pairs : (p : Pair) → after pairRank (b .paired) (getD (b .pairs) (b .paired - 1) noPair) p ≡ ascending pairRank (pairsOf b ++ (p ∷ []))
   unfolding pairsOf
   after-pairs p =
-      let s = a .sound in
-      after-same pairRank (b .paired) (pairIn before) (getD (pairsOf b) (b .paired - 1) noPair) p
-      (λ lt. a .last-pair lt ∙ ap pairRank (sym (getD-take (b .paired) (b .pairs) (b .paired - 1) noPair (omega arith))))
-      ∙ sym (ascends-after pairRank p noPair (pairsOf b) (b .paired) (pairs-count s) (pairs-order s))
+      after-same pairRank (b .paired) (getD (b .pairs) (b .paired - 1) noPair) (getD (pairsOf b) (b .paired - 1) noPair) p
+      (λ lt. ap pairRank (sym (getD-take (b .paired) (b .pairs) (b .paired - 1) noPair (omega arith))))
+      ∙ sym (ascends-after pairRank p noPair (pairsOf b) (b .paired) (pairs-count sound) (pairs-order sound))
 
-  -- A number that is not 0 is that of the line's first check that fails.
-  module _ (first : Bool) (cells : List Cell) {letter : ℕ} {number : ℕ} (is : number ≡ numberFor letter cells before first (b .held) (b .paired)) where
-    pub head-number : letter ≡ 65 → number ≡ firstFailing (lineChecks first b (headIn cells))
-    unfolding numberFor
-    head-number l = is ∙ rw l (head-number-is first b cells)
+  -- The number of a line is that of its first check that fails; of an M line, of the checks before the last.
+  module _ (first : Bool) {number : ℕ} where
+    pub holding-number : (h : Holding) → number ≡ numberOfHolding h (getD (b .holdings) (b .held - 1) noRow) first (b .held) (b .paired) → firstFailing (lineChecks first b (holding h)) ≡ number
+    holding-number h is = sym (is ∙ holding-number-of first b h _ (λ none. after-holdings h))
 
-    pub holding-number : letter ≡ 72 → number ≡ firstFailing (lineChecks first b (holding (holdingIn cells)))
-    unfolding numberFor
-    holding-number l = is ∙ rw l (holding-number-of first b (holdingIn cells) (holdingIn before) (after-holdings (holdingIn cells)))
-
-    pub pair-number : letter ≡ 77 → firstFailing (lineChecks first b (pair (pairIn cells))) ≡ orElse number (pick (both (legFree b (firstLeg (pairIn cells))) (legFree b (secondLeg (pairIn cells)))) 0 9)
-    unfolding numberFor
-    pair-number l =
-        let e : number ≡ numberOfPair (pairIn cells) (pairIn before) first (b .paired) = is ∙ rw l in
-        pair-number-of first b (pairIn cells) (pairIn before) (after-pairs (pairIn cells)) ∙ ap (λ (n : ℕ). orElse n (pick (both (legFree b (firstLeg (pairIn cells))) (legFree b (secondLeg (pairIn cells)))) 0 9)) (sym e)
+    pub pair-number : (p : Pair) → number ≡ numberOfPair p (getD (b .pairs) (b .paired - 1) noPair) first (b .paired) → firstFailing (lineChecks first b (pair p)) ≡ orElse number (pick (both (legFree b (firstLeg p)) (legFree b (secondLeg p))) 0 9)
+    pair-number p is = pair-number-of first b p _ (after-pairs p) ∙ ap (λ (n : ℕ). orElse n (pick (both (legFree b (firstLeg p)) (legFree b (secondLeg p))) 0 9)) (sym is)
 
 -- Rows in an array with one more at the end of the live ones.
 row-more : {A : Type 0} {empty : A} {good : A → Bool} {rank : A → List ℕ} {n : ℕ} {rows : List A} (x : A) → SoundRows empty good rank n rows → n < 128 → (set rows n x ≡ full 128 empty (take n rows ++ (x ∷ []))) × (n + 1 ≡ length (take n rows ++ (x ∷ [])))
@@ -118,12 +104,12 @@ row-more {A} {empty} {good} {rank} {n} {rows} x s lt =
     (ap (λ (l : List A). set l n x) (s .filled) ∙ subst (λ (k : ℕ). set (full 128 empty (take n rows)) k x ≡ full 128 empty (take n rows ++ (x ∷ []))) c (set-end 128 empty x (take n rows) (omega arith)), omega (arith, length-append (take n rows) (x ∷ [])))
 
 -- An A line.
-pub head-book-is : (b : Book) (cells : List Cell) → isIdentity (cell cells 1 .number) ≡ true → headBook cells ≡ withLine b (headIn cells)
-unfolding headBook withLine headIn
-head-book-is b cells e =
-    let small = identity-between (cell cells 1 .number) e in
-    let same : cell cells 1 .number % 256 ≡ cell cells 1 .number = omega arith in
-    ap (λ (i : ℕ). emptyBook (cell cells 0 .number) i (cell cells 2 .number)) same
+pub head-book-is : (b : Book) (account identity day : ℕ) → isIdentity identity ≡ true → emptyBook account (identity % 256) day ≡ withLine b (head account identity day)
+unfolding withLine
+head-book-is b account identity day e =
+    let small = identity-between identity e in
+    let same : identity % 256 ≡ identity = omega arith in
+    ap (λ (i : ℕ). emptyBook account i day) same
 
 -- The free lots with a row entered behind the others.
 slot-low : (i : ℕ) (d : Side) → slot i d ≤ 2 * i + 1
@@ -143,10 +129,7 @@ entered-here free n Long h long few =
 entered-here free n Short h long few = getD-set-same (set free (2 * n) (h .long)) (2 * n + 1) (h .short) 0 (simp length-set (omega arith))
 
 -- An H line: its row is the last, with its key and all its lots free.
-module _ {b : Book} {highs lows free : List ℕ} {before : List Cell} (a : Along b highs lows free before) (cells : List Cell) (next : NextHolding b (holdingIn cells)) where
-  abbrev row : Holding
-  row = holdingIn cells
-
+module _ {b : Book} {highs lows free : List ℕ} (a : Along b highs lows free) {row : Holding} (next : NextHolding b row) where
   held-few : b .held < 128
   held-few = let c = holdings-count (a .sound) in let r = next .row .room in omega arith
 
@@ -190,11 +173,9 @@ module _ {b : Book} {highs lows free : List ℕ} {before : List Cell} (a : Along
           rw (is, here, none-tied (row .series) d) (entered-here free (b .held) d row (a .free-long) held-few ∙ omega arith)
 
   -- The number of the holdings, and what goes along, with one more.
-  pub holding-along : Sound (withLine b (holding row)) → Along (heldRows b (set (b .holdings) (b .held) row) (b .held + 1)) (set highs (b .held) (highKey (row .series))) (set lows (b .held) (natureKey (row .series .nature))) (set (set free (2 * b .held) (row .long)) (2 * b .held + 1) (row .short)) cells
+  pub holding-along : Sound (withLine b (holding row)) → Along (heldRows b (set (b .holdings) (b .held) row) (b .held + 1)) (set highs (b .held) (highKey (row .series))) (set lows (b .held) (natureKey (row .series .nature))) (set (set free (2 * b .held) (row .long)) (2 * b .held + 1) (row .short))
   unfolding pairsOf
   holding-along s =
-      let last : b .held + 1 - 1 ≡ b .held = omega arith in
-      let none = next .no-pairs in
       record {
         sound = subst Sound (sym holding-book-is) s;
         highs-long = simp length-set (a .highs-long);
@@ -202,12 +183,10 @@ module _ {b : Book} {highs lows free : List ℕ} {before : List Cell} (a : Along
         free-long = simp length-set (a .free-long);
         keyed = keyed-more;
         lots = lots-more;
-        last-holding = λ z lt. rw last (ap holdingRank (sym here));
-        last-pair = λ lt. absurd (omega arith);
       }
 
 -- An M line: its legs find their lots in their slots, and take them there.
-module _ {b : Book} {highs lows free : List ℕ} {before : List Cell} (a : Along b highs lows free before) (p : Pair) (first-good : goodSeries (p .first) ≡ true) (second-good : goodSeries (p .second) ≡ true) where
+module _ {b : Book} {highs lows free : List ℕ} (a : Along b highs lows free) (p : Pair) (first-good : goodSeries (p .first) ≡ true) (second-good : goodSeries (p .second) ≡ true) where
   pub legs-are-free : legsFound highs lows free (b .held) p ≡ both (legFree b (firstLeg p)) (legFree b (secondLeg p))
   unfolding legsFound legFree freeLots firstLeg secondLeg
   legs-are-free =
@@ -225,10 +204,7 @@ module _ {b : Book} {highs lows free : List ℕ} {before : List Cell} (a : Along
       two ∙ omega arith
 
 -- With the pair as the last one.
-module _ {b : Book} {highs lows free : List ℕ} {before : List Cell} (a : Along b highs lows free before) (cells : List Cell) (next : NextPair b (pairIn cells)) where
-  abbrev newest : Pair
-  newest = pairIn cells
-
+module _ {b : Book} {highs lows free : List ℕ} (a : Along b highs lows free) {newest : Pair} (next : NextPair b newest) where
   paired-few : b .paired < 128
   paired-few = let c = pairs-count (a .sound) in let r = next .row .room in omega arith
 
@@ -243,12 +219,9 @@ module _ {b : Book} {highs lows free : List ℕ} {before : List Cell} (a : Along
       let few = paired-few in
       rw (add-one (b .paired)) (take-suc-set (b .pairs) (b .paired) newest (omega arith))
 
-  pub pair-along : Sound (withLine b (pair newest)) → Along (pairedRows b (set (b .pairs) (b .paired) newest) (b .paired + 1)) highs lows (lessLegs free (firstSlot highs lows (b .held) newest) (secondSlot highs lows (b .held) newest) newest) cells
+  pub pair-along : Sound (withLine b (pair newest)) → Along (pairedRows b (set (b .pairs) (b .paired) newest) (b .paired + 1)) highs lows (lessLegs free (firstSlot highs lows (b .held) newest) (secondSlot highs lows (b .held) newest) newest)
   pair-along s =
       let g = pair-is newest (next .row .is-good) in
-      let long = rows-long (a .sound .pairs-sound) in
-      let few = paired-few in
-      let last : b .paired + 1 - 1 ≡ b .paired = omega arith in
       record {
         sound = subst Sound (sym pair-book-is) s;
         highs-long = a .highs-long;
@@ -256,6 +229,4 @@ module _ {b : Book} {highs lows free : List ℕ} {before : List Cell} (a : Along
         free-long = simp length-set (a .free-long);
         keyed = a .keyed;
         lots = λ i d lt. rw its-pairs-are (lots-less a newest (g .first-good) (g .second-good) i d lt);
-        last-holding = λ z lt. absurd (omega arith);
-        last-pair = λ lt. rw last (ap pairRank (sym (getD-set-same (b .pairs) (b .paired) newest noPair (omega arith))));
       }

@@ -1,25 +1,30 @@
 -- Laws of a line's form: what the line says by its letter, once its fields are read.
 use mathlib.Core.Path.{_≡_, refl, ap, sym, _∙_, subst}
+use mathlib.Core.Logic.{_⊎_, inl, inr, ⊎-elim}
 use mathlib.Core.Bool.{Bool, true, false}
 use mathlib.Core.List.{List, []}
-use Prim.Native.Nat.{ℕ, _+_, _-_, _<_, _≤_}
+use Prim.Native.Nat.{ℕ, _-_, _<_, _≤_}
 use native.Mathlib.Omega.{arith}
 use borrow.Author.Tests.{ne-eqb, eqb-true, eqb-false}
 use lib.Dec.{eqb}
-use lib.ListN.{getD, length, take, drop}
-use lib.Seq.{getD-take, take-all}
+use lib.ListN.{getD, length, take, drop, replicate, length-replicate}
 use Rattle.laws.specs.Truth.{pick, both}
 use Rattle.laws.specs.TruthLaws.{by-test}
 use Rattle.laws.specs.Bytes.{sameBytes}
 use Rattle.laws.specs.ByteLaws.{are-same}
 use Rattle.laws.specs.Text.{byte, bytes}
-use Rattle.lines.specs.declared.Kind.the-variants.{Nothing}
 use Rattle.lines.specs.declared.Cell.{Cell}
-use Rattle.lines.specs.Fields.{hasForm, cellsOf}
+use Rattle.lines.specs.Parts.{lf, nextOf, stopOf}
+use Rattle.lines.specs.Fields.{noCell, hasForm, cellsOf}
 use Rattle.lines.specs.CutLaws.{fieldsBehind}
-use Rattle.lines.specs.LoopLaws.{InFields, row-fields, row-wrong, row-done, in-table}
+use Rattle.lines.specs.StopLaws.{lineAt}
+use Rattle.lines.specs.LoopLaws.{InFields, InLine, line-begins, row-fields}
+use Rattle.lines.specs.Behind.{chainBehind}
+use Rattle.lines.specs.BehindLaws.{Unformed, chain-done, chain-wrong, chain-ends, chain-over}
+use Rattle.reading.specs.declared.Item.{Item}
 use Rattle.reading.specs.Reading.{Line, holding, pair, formless, headForm, holdingForm, pairForm, headIn, holdingIn, pairIn, lineIn, lineFrom, lineOf}
-use Rattle.reading.specs.Facts.{letterIn, formFor, kindTable, placeFor, fieldsFor}
+use Rattle.reading.specs.Facts.{letterIn, formFor, partsFor, itemsBehind, holdingOf, pairOf}
+use Rattle.reading.specs.LineLaws.{Read, byCells, byItems, headOf, head-read, holding-read, pair-read}
 
 -- What a line of a letter says by its cells, if it has the form.
 unfoldable pub saidBy : ℕ → List Cell → Line
@@ -63,10 +68,6 @@ form-few letter =
     (λ q. omega arith)
     (λ q. by-test (λ (m : Bool). length (pick m pairForm []) ≤ 12) (eqb letter (byte "M")) (λ q. omega arith) (λ q. omega arith)))
 
--- what a cell behind the end would be
-abbrev none : Cell
-none = record { right = false; number = 0; code = [] }
-
 -- The three letters of a book, and any other.
 module _ (letter : ℕ) (P : Type 0) where
   pub by-letters : (letter ≡ 65 → P) → (letter ≡ 72 → P) → (letter ≡ 77 → P) → ((letter ≡ 65 → ⊥) → (letter ≡ 72 → ⊥) → (letter ≡ 77 → ⊥) → P) → P
@@ -84,65 +85,96 @@ module _ (letter : ℕ) (P : Type 0) where
       refl)
       refl
 
--- In the table the kinds of a letter's form stand from its place on, and Nothing behind them.
-pub form-at : (letter k : ℕ) → k ≤ length (formFor letter) → (placeFor letter + k < 24) × (getD kindTable (placeFor letter + k) Nothing ≡ getD (formFor letter) k Nothing)
-unfolding formFor placeFor kindTable headForm holdingForm pairForm
-form-at letter k h =
-    by-letters letter ((placeFor letter + k < 24) × (getD kindTable (placeFor letter + k) Nothing ≡ getD (formFor letter) k Nothing))
-    (λ l. let few : k ≤ length headForm = rw l at h in rw l (omega arith, in-table kindTable headForm _ 0 refl k few))
-    (λ l. let few : k ≤ length holdingForm = rw l at h in rw l (omega arith, in-table kindTable holdingForm _ 4 refl k few))
-    (λ l. let few : k ≤ length pairForm = rw l at h in rw l (omega arith, in-table kindTable pairForm _ 11 refl k few))
-    (λ x y z. let few : k ≤ 0 = rw (ne-eqb letter 65 x, ne-eqb letter 72 y, ne-eqb letter 77 z) at h in rw (ne-eqb letter 65 x, ne-eqb letter 72 y, ne-eqb letter 77 z) (omega arith, in-table kindTable [] _ 23 refl k few))
+-- a letter of a book
+abbrev pub Known : ℕ → Type 0
+Known letter = (letter ≡ 65 → ⊥) → (letter ≡ 72 → ⊥) → (letter ≡ 77 → ⊥) → ⊥
 
--- A head and a holding look no further than their fields.
-head-taken : (cs : List Cell) → headIn (take 3 cs) ≡ headIn cs
-unfolding headIn
-head-taken cs = rw (getD-take 3 cs 0 none (omega arith), getD-take 3 cs 1 none (omega arith), getD-take 3 cs 2 none (omega arith))
-
-holding-taken : (cs : List Cell) → holdingIn (take 6 cs) ≡ holdingIn cs
-unfolding holdingIn
-holding-taken cs =
-    rw (getD-take 6 cs 0 none (omega arith), getD-take 6 cs 1 none (omega arith), getD-take 6 cs 2 none (omega arith), getD-take 6 cs 3 none (omega arith), getD-take 6 cs 4 none (omega arith), getD-take 6 cs 5 none (omega arith))
-
--- What a line says, once its letter and its fields are read.
+-- What a line says, once its letter is read.
 module _ {row : List ℕ} {first letter : ℕ} {cells : List Cell} {k stop : ℕ} (a : InFields letterIn formFor 12 row first letter cells k stop) where
   line-is : lineOf row ≡ pick (hasForm (formFor letter) (fieldsBehind row first)) (saidBy letter (cellsOf (formFor letter) (fieldsBehind row first))) formless
   unfolding lineOf lineFrom
   line-is = rw (row-fields row (a .first-is)) (subst (λ (l : ℕ). lineIn (take (first - 0) (drop 0 row)) (fieldsBehind row first) ≡ pick (hasForm (formFor l) (fieldsBehind row first)) (saidBy l (cellsOf (formFor l) (fieldsBehind row first))) formless) (sym (a .letter-is)) (by-letter (take (first - 0) (drop 0 row)) (fieldsBehind row first)))
 
-  pub line-formless : hasForm (formFor letter) (fieldsBehind row first) ≡ false → lineOf row ≡ formless
+  line-formless : hasForm (formFor letter) (fieldsBehind row first) ≡ false → lineOf row ≡ formless
   line-formless e = line-is ∙ rw e
 
-  module _ (done : length row ≤ stop) where
-    -- Too few fields, or no letter of a book.
-    pub line-wrong : (k ≡ fieldsFor letter → ⊥) → lineOf row ≡ formless
-    unfolding fieldsFor formFor headForm holdingForm pairForm saidBy
-    line-wrong n =
-        by-letters letter (lineOf row ≡ formless)
-        (λ e. line-formless (row-wrong a done (λ z. n (z ∙ rw e))))
-        (λ e. line-formless (row-wrong a done (λ z. n (z ∙ rw e))))
-        (λ e. line-formless (row-wrong a done (λ z. n (z ∙ rw e))))
-        (λ x y z. line-is ∙ rw (ne-eqb letter 65 x, ne-eqb letter 72 y, ne-eqb letter 77 z) (never (hasForm [] (fieldsBehind row first))))
-      where
-        never : (t : Bool) → pick t formless formless ≡ formless
-        never true = refl
-        never false = refl
+  -- No letter of a book.
+  line-unknown : (letter ≡ 65 → ⊥) → (letter ≡ 72 → ⊥) → (letter ≡ 77 → ⊥) → lineOf row ≡ formless
+  unfolding saidBy
+  line-unknown x y z = line-is ∙ rw (ne-eqb letter 65 x, ne-eqb letter 72 y, ne-eqb letter 77 z) (never (hasForm (formFor letter) (fieldsBehind row first)))
+    where
+      never : (t : Bool) → pick t formless formless ≡ formless
+      never true = refl
+      never false = refl
 
-    -- A line of the form has a letter of a book.
-    pub letter-known : k ≡ fieldsFor letter → (letter ≡ 65 → ⊥) → (letter ≡ 72 → ⊥) → (letter ≡ 77 → ⊥) → ⊥
-    unfolding fieldsFor
-    letter-known e x y z =
-        let few = a .fields .few in
-        let f = form-few letter in
-        let n : k ≡ 13 = e ∙ rw (ne-eqb letter 65 x, ne-eqb letter 72 y, ne-eqb letter 77 z) in
-        omega arith
+-- a line without its LF, or without the form
+abbrev pub Formless : List ℕ → ℕ → Type 0
+Formless t at = (length t ≤ nextOf t at lf) ⊎ (lineOf (lineAt t at) ≡ formless)
 
-    -- A line of the form says what its cells do.
-    pub line-right : k ≡ fieldsFor letter → lineOf row ≡ saidBy letter cells
-    unfolding fieldsFor formFor headForm holdingForm pairForm saidBy
-    line-right e =
-        by-letters letter (lineOf row ≡ saidBy letter cells)
-        (λ l. let n : k ≡ 3 = e ∙ rw l in let d = row-done a done (n ∙ rw l) in line-is ∙ rw (d .0) (rw (sym (d .1), n, l) (head-taken cells)))
-        (λ l. let n : k ≡ 6 = e ∙ rw l in let d = row-done a done (n ∙ rw l) in line-is ∙ rw (d .0) (rw (sym (d .1), n, l) (ap holding (holding-taken cells))))
-        (λ l. let n : k ≡ 12 = e ∙ rw l in let d = row-done a done (n ∙ rw l) in line-is ∙ rw (d .0) (rw (sym (d .1), n, l) (ap pair (ap pairIn (take-all 12 cells (let long = a .fields .long in omega arith))))))
-        (λ x y z. absurd (letter-known e x y z))
+-- the field of the letter
+abbrev pub letterText : List ℕ → ℕ → List ℕ
+letterText t at = take (stopOf t at - at) (drop at t)
+
+-- What the line says, up to its LF.
+abbrev pub Says : List ℕ → ℕ → Line → ℕ → Type 0
+Says t at x stop = (lineOf (lineAt t at) ≡ x) × ((stop ≡ nextOf t at lf) × (stop < length t))
+
+-- A line says what the fields of its letter's form do, and has the form if they all have theirs and then an LF stands.
+module _ (t : List ℕ) (at letter : ℕ) (is : letter ≡ letterIn (letterText t at)) (lt : stopOf t at < length t) where
+  opens : InLine letterIn formFor 12 t at (stopOf t at) letter (replicate 12 noCell) 0 (stopOf t at)
+  opens = line-begins t at (replicate 12 noCell) refl lt is (length-replicate 12 noCell)
+
+  line-said : chainBehind (formFor letter) t (stopOf t at) .right ≡ true → getD t (chainBehind (formFor letter) t (stopOf t at) .stop) 0 ≡ lf → Says t at (saidBy letter (chainBehind (formFor letter) t (stopOf t at) .cells)) (chainBehind (formFor letter) t (stopOf t at) .stop)
+  line-said r e =
+      let d = chain-done (form-few letter) (formFor letter) opens refl r in
+      let h = chain-ends (form-few letter) d e in
+      (line-is (opens .fields) ∙ rw (h .1 .0, h .1 .1), (h .0, d .line .inside))
+
+  line-unsaid : (chainBehind (formFor letter) t (stopOf t at) .right ≡ true → getD t (chainBehind (formFor letter) t (stopOf t at) .stop) 0 ≡ lf → ⊥) → Formless t at
+  line-unsaid n =
+      ⊎-elim (λ h. inl h) (λ h. inr (line-formless (opens .fields) h))
+      (by-test (λ (b : Bool). chainBehind (formFor letter) t (stopOf t at) .right ≡ b → Unformed t at (formFor letter) (stopOf t at)) (chainBehind (formFor letter) t (stopOf t at) .right)
+      (λ q r. chain-over (form-few letter) (chain-done (form-few letter) (formFor letter) opens refl r) (n r))
+      (λ q r. chain-wrong (form-few letter) (formFor letter) opens refl r)
+      refl)
+
+  -- So by the items of the letter's parts.
+  module _ {A : Type 0} (f : List Item → A) (g : List Cell → A) (same : byItems f (itemsBehind (partsFor letter) t (stopOf t at)) ≡ byCells g (chainBehind (formFor letter) t (stopOf t at))) where
+    same-right : itemsBehind (partsFor letter) t (stopOf t at) .right ≡ chainBehind (formFor letter) t (stopOf t at) .right
+    same-right = ap (λ (r : Read A). r .right) same
+
+    same-stop : itemsBehind (partsFor letter) t (stopOf t at) .stop ≡ chainBehind (formFor letter) t (stopOf t at) .stop
+    same-stop = ap (λ (r : Read A). r .stop) same
+
+    items-said : itemsBehind (partsFor letter) t (stopOf t at) .right ≡ true → getD t (itemsBehind (partsFor letter) t (stopOf t at) .stop) 0 ≡ lf → (x : A → Line) → saidBy letter (chainBehind (formFor letter) t (stopOf t at) .cells) ≡ x (g (chainBehind (formFor letter) t (stopOf t at) .cells)) → Says t at (x (f (itemsBehind (partsFor letter) t (stopOf t at) .items))) (itemsBehind (partsFor letter) t (stopOf t at) .stop)
+    items-said r e x says =
+        let h = line-said (sym same-right ∙ r) (rw same-stop at e) in
+        (h .0 ∙ says ∙ ap (λ (y : Read A). x (y .says)) (sym same), (same-stop ∙ h .1 .0, rw same-stop (h .1 .1)))
+
+    items-unsaid : (itemsBehind (partsFor letter) t (stopOf t at) .right ≡ true → getD t (itemsBehind (partsFor letter) t (stopOf t at) .stop) 0 ≡ lf → ⊥) → Formless t at
+    items-unsaid n = line-unsaid (λ r e. n (same-right ∙ r) (rw same-stop e))
+
+module _ (t : List ℕ) (at : ℕ) {letter : ℕ} (is : letter ≡ letterIn (letterText t at)) (lt : stopOf t at < length t) where
+  -- A line that has not its LF, or not the form of its letter.
+  pub unsaid : (Known letter → itemsBehind (partsFor letter) t (stopOf t at) .right ≡ true → getD t (itemsBehind (partsFor letter) t (stopOf t at) .stop) 0 ≡ lf → ⊥) → Formless t at
+  unfolding partsFor formFor
+  unsaid n =
+      by-letters letter (Formless t at)
+      (λ l. items-unsaid t at letter is lt headOf headIn (rw l (head-read t (stopOf t at))) (n (λ x y z. x l)))
+      (λ l. items-unsaid t at letter is lt holdingOf holdingIn (rw l (holding-read t (stopOf t at))) (n (λ x y z. y l)))
+      (λ l. items-unsaid t at letter is lt pairOf pairIn (rw l (pair-read t (stopOf t at))) (n (λ x y z. z l)))
+      (λ x y z. inr (line-unknown (opens t at letter is lt .fields) x y z))
+
+  -- What a line of each letter says.
+  module _ (r : itemsBehind (partsFor letter) t (stopOf t at) .right ≡ true) (e : getD t (itemsBehind (partsFor letter) t (stopOf t at) .stop) 0 ≡ lf) where
+    pub head-said : letter ≡ 65 → Says t at (headOf (itemsBehind (partsFor letter) t (stopOf t at) .items)) (itemsBehind (partsFor letter) t (stopOf t at) .stop)
+    unfolding partsFor formFor saidBy
+    head-said l = items-said t at letter is lt headOf headIn (rw l (head-read t (stopOf t at))) r e (λ (y : Line). y) (rw l)
+
+    pub holding-said : letter ≡ 72 → Says t at (holding (holdingOf (itemsBehind (partsFor letter) t (stopOf t at) .items))) (itemsBehind (partsFor letter) t (stopOf t at) .stop)
+    unfolding partsFor formFor saidBy
+    holding-said l = items-said t at letter is lt holdingOf holdingIn (rw l (holding-read t (stopOf t at))) r e holding (rw l)
+
+    pub pair-said : letter ≡ 77 → Says t at (pair (pairOf (itemsBehind (partsFor letter) t (stopOf t at) .items))) (itemsBehind (partsFor letter) t (stopOf t at) .stop)
+    unfolding partsFor formFor saidBy
+    pair-said l = items-said t at letter is lt pairOf pairIn (rw l (pair-read t (stopOf t at))) r e pair (rw l)

@@ -8,16 +8,14 @@ ghost use Rattle.series.specs.Key.{highKey, natureKey};
 ghost use Rattle.rows.specs.Book.{noBook};
 ghost use Rattle.rules.specs.Facts.{Counts};
 ghost use Rattle.lines.specs.Parts.{lf, splitOn};
-ghost use Rattle.lines.specs.Fields.{fieldAt};
-ghost use Rattle.reading.specs.Reading.{holdingIn, pairIn, refusedAt, accepted, readLines, readText};
-ghost use Rattle.reading.specs.Facts.{letterIn, placeFor, fieldsFor, worse, numberOfHead, numberOfHolding, numberOfPair, numberFor, headBook, slot, slotAt, legsFound, legsTaken};
-use laws::Order;
-use lines::Cell;
+ghost use Rattle.reading.specs.Reading.{refusedAt, accepted, readLines, readText};
+ghost use Rattle.reading.specs.Facts.{letterIn, placeFor, partsCount, numberItem, seriesItem, itemBehind, holdingOf, pairOf, worse, numberOfHead, numberOfHolding, numberOfPair, slot, slotAt, legsFound, legsTaken};
 use lines::Field;
-use lines::Kind;
+use lines::Written;
 use rows::Book;
 use rows::Holding;
 use rows::Pair;
+use series::Nature;
 use series::Series;
 use series::Side;
 
@@ -48,6 +46,24 @@ fn accept(book: Book) -> Answer
     }
 }
 
+// A part of a line's form, as the paper writes it: SERIES is one, of four fields.
+enum Part {
+    Nothing,
+    Number,
+    Account,
+    Mark,
+    Date,
+    Series,
+}
+
+// What a part of a line writes, a number or a series; whether it has its form, and the place of the tab or LF behind it.
+struct Item {
+    right: bool,
+    number: u32,
+    series: Series,
+    stop: usize,
+}
+
 // The line's letter, or 0.
 fn letter_of(t: &[u8]) -> u8
     ensures { λ r. ⌜ r ≡ letterIn (now (t .entry)) ⌝ }
@@ -64,92 +80,117 @@ fn letter_of(t: &[u8]) -> u8
     0
 }
 
-// The kinds of the fields of the forms A, H and M, one form behind the other; Nothing stands between and behind them.
-const KINDS: [Kind; 24] = [
-    Kind::Account,
-    Kind::Mark,
-    Kind::Date,
-    Kind::Nothing,
-    Kind::Code,
-    Kind::Date,
-    Kind::Mark,
-    Kind::Number,
-    Kind::Number,
-    Kind::Number,
-    Kind::Nothing,
-    Kind::Number,
-    Kind::Code,
-    Kind::Date,
-    Kind::Mark,
-    Kind::Number,
-    Kind::Code,
-    Kind::Date,
-    Kind::Mark,
-    Kind::Number,
-    Kind::Number,
-    Kind::Number,
-    Kind::Number,
-    Kind::Nothing,
+// The parts of the forms A, H and M, one form behind the other; Nothing stands between and behind them.
+const PARTS: [Part; 15] = [
+    Part::Account,
+    Part::Mark,
+    Part::Date,
+    Part::Nothing,
+    Part::Series,
+    Part::Number,
+    Part::Number,
+    Part::Nothing,
+    Part::Number,
+    Part::Series,
+    Part::Series,
+    Part::Number,
+    Part::Number,
+    Part::Number,
+    Part::Nothing,
 ];
 
-// The field of a kind that begins at `from`.
-fn field_at(kind: Kind, t: &[u8], from: usize) -> Field
-    ensures { λ r. ⌜ r ≡ fieldAt kind (now (t .entry)) from ⌝ }
+fn number_item(f: Field) -> Item
+    ensures { λ r. ⌜ r ≡ numberItem f ⌝ }
 {
-    match kind {
-        Kind::Nothing => lines::no_field(),
-        Kind::Number => lines::number_at(t, from),
-        Kind::Account => lines::account_at(t, from),
-        Kind::Date => lines::date_at(t, from),
-        Kind::Code => lines::code_at(t, from),
-        Kind::Mark => lines::mark_at(t, from),
+    let c = f.cell;
+    Item {
+        right: c.right,
+        number: c.number,
+        series: Series {
+            code: [0u8; 3],
+            date: 0,
+            nature: Nature::Future,
+        },
+        stop: f.stop,
     }
 }
 
-// Where the kinds of the form of the letter's line begin.
+fn series_item(w: Written) -> Item
+    ensures { λ r. ⌜ r ≡ seriesItem w ⌝ }
+{
+    let series = w.series;
+    Item {
+        right: w.right,
+        number: 0,
+        series,
+        stop: w.stop,
+    }
+}
+
+// The part behind the tab at `at`.
+fn item_behind(part: Part, t: &[u8], at: usize) -> Item
+    ensures { λ r. ⌜ r ≡ itemBehind part (now (t .entry)) at ⌝ }
+{
+    match part {
+        Part::Nothing => number_item(lines::no_field()),
+        Part::Number => number_item(lines::number_behind(t, at)),
+        Part::Account => number_item(lines::account_behind(t, at)),
+        Part::Mark => number_item(lines::mark_behind(t, at)),
+        Part::Date => number_item(lines::date_behind(t, at)),
+        Part::Series => series_item(lines::series_behind(t, at)),
+    }
+}
+
+// Where the parts of the form of the letter's line begin.
 fn form_of(letter: u8) -> usize
     ensures { λ r. ⌜ r ≡ placeFor letter ⌝ }
 {
     match letter {
         b'A' => 0,
         b'H' => 4,
-        b'M' => 11,
-        _ => 23,
+        b'M' => 8,
+        _ => 14,
     }
 }
 
-// How many fields stand behind the letter; more than there can be where it is no letter of a book.
-fn fields_of(letter: u8) -> usize
-    ensures { λ r. ⌜ r ≡ fieldsFor letter ⌝ }
+// How many parts stand behind the letter; more than there can be where it is no letter of a book.
+fn parts_of(letter: u8) -> usize
+    ensures { λ r. ⌜ r ≡ partsCount letter ⌝ }
 {
     match letter {
         b'A' => 3,
-        b'H' => 6,
-        b'M' => 12,
-        _ => 13,
+        b'H' => 3,
+        b'M' => 6,
+        _ => 7,
     }
 }
 
-fn holding_of(cells: [Cell; 12]) -> Holding
-    ensures { λ r. ⌜ r ≡ holdingIn cells ⌝ }
+fn holding_of(items: [Item; 6]) -> Holding
+    ensures { λ r. ⌜ r ≡ holdingOf items ⌝ }
 {
+    let first = items[0];
+    let series = first.series;
     Holding {
-        series: lines::series_of(cells[0], cells[1], cells[2], cells[3]),
-        long: cells[4].number,
-        short: cells[5].number,
+        series,
+        long: items[1].number,
+        short: items[2].number,
     }
 }
 
-fn pair_of(cells: [Cell; 12]) -> Pair
-    ensures { λ r. ⌜ r ≡ pairIn cells ⌝ }
+fn pair_of(items: [Item; 6]) -> Pair
+    ensures { λ r. ⌜ r ≡ pairOf items ⌝ }
 {
+    let a = items[1];
+    let b = items[2];
+    let first = a.series;
+    let second = b.series;
     Pair {
-        kind: cells[0].number,
-        first: lines::series_of(cells[1], cells[2], cells[3], cells[4]),
-        second: lines::series_of(cells[5], cells[6], cells[7], cells[8]),
-        r1: cells[9].number,
-        r2: cells[10].number,
-        units: cells[11].number,
+        kind: items[0].number,
+        first,
+        second,
+        r1: items[3].number,
+        r2: items[4].number,
+        units: items[5].number,
     }
 }
 
@@ -169,16 +210,15 @@ fn worse_of(a: u8, b: u8) -> u8
 }
 
 // The number that an A line is refused by, or 0.
-fn head_number(cells: [Cell; 12], first: bool) -> u8
-    ensures { λ r. ⌜ r ≡ numberOfHead cells first ⌝ }
+fn head_number(identity: u32, day: u32, first: bool) -> u8
+    ensures { λ r. ⌜ r ≡ numberOfHead identity day first ⌝ }
 {
-    let mark = cells[1].number;
-    let identity = laws::or(
-        laws::in_range(b'0' as u32, b'9' as u32, mark),
-        laws::in_range(b'A' as u32, b'Z' as u32, mark),
+    let known = laws::or(
+        laws::in_range(b'0' as u32, b'9' as u32, identity),
+        laws::in_range(b'A' as u32, b'Z' as u32, identity),
     );
-    let day = dates::is_day(cells[2].number);
-    laws::unless(5, day, laws::unless(2, identity, laws::unless(3, first, 0)))
+    let is_day = dates::is_day(day);
+    laws::unless(5, is_day, laws::unless(2, known, laws::unless(3, first, 0)))
 }
 
 // The number that an H line behind `held` holdings, the last of which is `last`, and `paired` pairs is refused by, or 0.
@@ -225,34 +265,6 @@ fn pair_number(p: Pair, last: Pair, first: bool, paired: usize) -> u8
             laws::unless(6, counts, laws::or_else(allowed, place)),
         ),
     )
-}
-
-// The number that a line of the form is refused by before its lots are looked for, or 0; `before` is what stood in the line before it.
-fn line_number(
-    letter: u8,
-    cells: [Cell; 12],
-    before: [Cell; 12],
-    first: bool,
-    held: usize,
-    paired: usize,
-) -> u8
-    ensures { λ r. ⌜ r ≡ numberFor letter cells before first held paired ⌝ }
-{
-    if letter == b'A' {
-        return head_number(cells, first);
-    }
-    if letter == b'H' {
-        return holding_number(holding_of(cells), holding_of(before), first, held, paired);
-    }
-    pair_number(pair_of(cells), pair_of(before), first, paired)
-}
-
-// The book that an A line begins.
-fn head_book(cells: [Cell; 12]) -> Book
-    ensures { λ r. ⌜ r ≡ headBook cells ⌝ }
-{
-    let mark = cells[1].number % 256;
-    rows::empty_book(cells[0].number, mark as u8, cells[2].number)
 }
 
 // Where the free lots of a row and side stand.
@@ -347,19 +359,25 @@ fn enter(highs: &mut [u64], lows: &mut [u64], free: &mut [u32], row: usize, h: H
     free[2 * row + 1] = h.short;
 }
 
-// Line after line. What stood in the line before, and the keys and free lots of the rows so far, go along with the book.
+// The row before a row, or the first.
+fn before(i: usize) -> usize
+    ensures { λ r. ⌜ r ≡ i - 1 ⌝ }
+{
+    if i == 0 { 0 } else { i - 1 }
+}
+
+// Line after line. The keys and free lots of the rows so far go along with the book.
 fn read_lines(t: &[u8]) -> Answer
     requires { ⌜ length (now t) ≤ 16384 ⌝ }
     ensures { λ r. ⌜ r ≡ readLines 0 noBook (splitOn lf (now (t .entry))) ⌝ }
 {
-    let none = lines::no_cell();
-    let kinds = KINDS;
+    let parts = PARTS;
+    let none = number_item(lines::no_field());
     let mut book = rows::empty_book(0, b'0', 20000101);
     let mut highs = [0u64; 128];
     let mut lows = [0u64; 128];
     let mut free = [0u32; 256];
-    let mut before = [none; 12];
-    let mut cells = [none; 12];
+    let mut items = [none; 6];
     let mut line: u32 = 0;
     let mut at: usize = 0;
     'lines: loop {
@@ -375,39 +393,47 @@ fn read_lines(t: &[u8]) -> Answer
         let form = form_of(letter);
         let mut k: usize = 0;
         'fields: while t[stop] == b'\t' {
-            let kind = kinds[form + k];
-            let field = field_at(kind, t, stop + 1);
-            let cell = field.cell;
-            if !cell.right {
+            let item = item_behind(parts[form + k], t, stop);
+            if !item.right {
                 break 'lines refused(1, line);
             }
-            cells[k] = cell;
+            items[k] = item;
             k += 1;
-            stop = field.stop;
+            stop = item.stop;
         }
-        if k != fields_of(letter) {
+        if k != parts_of(letter) {
             break 'lines refused(1, line);
         }
+        at = stop + 1;
         let n = book.held;
         let m = book.paired;
-        let number = line_number(letter, cells, before, line == 1, n, m);
-        if number != 0 {
-            break 'lines refused(number, line);
-        }
-        at = stop + 1;
-        before = cells;
         if letter == b'A' {
-            book = head_book(cells);
+            let account = items[0].number;
+            let identity = items[1].number;
+            let day = items[2].number;
+            let number = head_number(identity, day, line == 1);
+            if number != 0 {
+                break 'lines refused(number, line);
+            }
+            book = rows::empty_book(account, (identity % 256) as u8, day);
             continue 'lines;
         }
         if letter == b'H' {
-            let h = holding_of(cells);
+            let h = holding_of(items);
+            let number = holding_number(h, book.holdings[before(n)], line == 1, n, m);
+            if number != 0 {
+                break 'lines refused(number, line);
+            }
             book.holdings[n] = h;
             book.held = n + 1;
             enter(&mut highs, &mut lows, &mut free, n, h);
             continue 'lines;
         }
-        let p = pair_of(cells);
+        let p = pair_of(items);
+        let number = pair_number(p, book.pairs[before(m)], line == 1, m);
+        if number != 0 {
+            break 'lines refused(number, line);
+        }
         if !take_legs(&highs, &lows, &mut free, n, p) {
             break 'lines refused(9, line);
         }

@@ -1,11 +1,14 @@
 -- Document 01, "Text" (sheet): a sheet is its day and its rows, in four lists; a lookup is the row with that key.
-use mathlib.Core.Bool.{true, false}
+use mathlib.Core.Bool.{Bool, true, false}
 use mathlib.Core.List.{List, [], _∷_}
 use Prim.Native.Nat.{ℕ}
 use lib.Dec.{eqb}
+use lib.ListN.{getD}
+use Rattle.laws.specs.Truth.{both}
 use Rattle.laws.specs.Text.{three}
 use Rattle.laws.specs.Bytes.{sameBytes}
 use Rattle.laws.specs.Search.{firstWhere}
+use Rattle.codes.specs.Codes.{namesStock}
 use Rattle.series.specs.declared.Series.{Series}
 use Rattle.series.specs.declared.Nature.the-variants.{Future}
 use Rattle.series.specs.Key.{key}
@@ -36,6 +39,10 @@ futureCodes =
 
 unfoldable pub optionCodes : List (List ℕ)
 optionCodes = three "TXO" ∷ three "TEO" ∷ three "TFO" ∷ three "TGO" ∷ []
+
+-- "S any two capitals": and a 0 byte, as a code of two letters has
+unfoldable pub twoCapitals : List ℕ → Bool
+twoCapitals code = both (namesStock code) (eqb (getD code 2 0) 0)
 
 -- an amount, or that there is none
 abbrev pub found : ℕ → Found

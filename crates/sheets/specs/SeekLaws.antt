@@ -14,7 +14,7 @@ use Rattle.laws.specs.declared.Order.the-variants.{Less, Same, More}
 use Rattle.laws.specs.Truth.{pick}
 use Rattle.laws.specs.TruthLaws.{by-test}
 use Rattle.laws.specs.Order.{orderOf, byOrder, thenBy, bytesOrder}
-use Rattle.laws.specs.OrderLaws.{then-same, text-before, not-before-self, split-text}
+use Rattle.laws.specs.OrderLaws.{is-less, is-same, is-more, text-before, not-before-self, split-text}
 use Rattle.halving.specs.Halving.{keyAt, middle}
 use Rattle.series.specs.declared.Halves.{Halves}
 use Rattle.series.specs.Key.{highKey, natureKey, halvesOf}
@@ -170,13 +170,32 @@ module _ (rows : List PriceRow) (k : List ℕ) where
     unfolding priceAmong
     among-nowhere none = sought-nowhere none (length rows) 0 (length rows) (omega arith)
 
--- A row's key against another, half by half.
-key-order : (row : PriceRow) (key : Halves) {k : Halves} {low order : Order} → k ≡ halvesOf (row .series) → low ≡ orderOf (k .low) (key .low) → order ≡ thenBy (orderOf (k .high) (key .high)) low → order ≡ bytesOrder (rowKey row) (key .high ∷ key .low ∷ [])
-unfolding bytesOrder
-key-order row key is low-is e = e ∙ rw (low-is, is) (ap (thenBy (orderOf (highKey (row .series)) (key .high))) (sym (then-same (orderOf (natureKey (row .series .nature)) (key .low)))))
+-- A row's key against another: by the order of the higher halves, or where they are the same by that of the lower ones.
+module _ (row : PriceRow) (key : Halves) {k : Halves} (is : k ≡ halvesOf (row .series)) where
+  by-high : (o : Order) → o ≡ orderOf (k .high) (key .high) → bytesOrder (rowKey row) (key .high ∷ key .low ∷ []) ≡ thenBy o (thenBy (orderOf (k .low) (key .low)) Same)
+  unfolding bytesOrder
+  by-high o e = rw (e, is)
 
-pub turned : (row : PriceRow) (key : Halves) (up here down : Search) {k : Halves} {low order : Order} {t : Search} → k ≡ halvesOf (row .series) → low ≡ orderOf (k .low) (key .low) → order ≡ thenBy (orderOf (k .high) (key .high)) low → (o : Order) → order ≡ o → t ≡ byOrder o up here down → t ≡ byOrder (bytesOrder (rowKey row) (key .high ∷ key .low ∷ [])) up here down
-turned row key up here down is low-is e o told r = r ∙ ap (λ (z : Order). byOrder z up here down) (sym told ∙ key-order row key is low-is e)
+  by-low : key .high ≤ k .high → k .high ≤ key .high → (o : Order) → o ≡ orderOf (k .low) (key .low) → bytesOrder (rowKey row) (key .high ∷ key .low ∷ []) ≡ thenBy o Same
+  by-low x y o e = by-high Same (is-same (omega arith)) ∙ rw (sym e)
+
+  -- The search goes up, ends or goes down.
+  module _ (up here down : Search) {t : Search} where
+    pub high-less : k .high < key .high → t ≡ up → t ≡ byOrder (bytesOrder (rowKey row) (key .high ∷ key .low ∷ [])) up here down
+    high-less h e = e ∙ rw (by-high Less (is-less h))
+
+    pub high-more : key .high < k .high → t ≡ down → t ≡ byOrder (bytesOrder (rowKey row) (key .high ∷ key .low ∷ [])) up here down
+    high-more h e = e ∙ rw (by-high More (is-more h))
+
+    module _ (not-less : key .high ≤ k .high) (not-more : k .high ≤ key .high) where
+      pub low-less : k .low < key .low → t ≡ up → t ≡ byOrder (bytesOrder (rowKey row) (key .high ∷ key .low ∷ [])) up here down
+      low-less h e = e ∙ rw (by-low not-less not-more Less (is-less h))
+
+      pub low-more : key .low < k .low → t ≡ down → t ≡ byOrder (bytesOrder (rowKey row) (key .high ∷ key .low ∷ [])) up here down
+      low-more h e = e ∙ rw (by-low not-less not-more More (is-more h))
+
+      pub low-same : key .low ≤ k .low → k .low ≤ key .low → t ≡ here → t ≡ byOrder (bytesOrder (rowKey row) (key .high ∷ key .low ∷ [])) up here down
+      low-same x y e = e ∙ rw (by-low not-less not-more Same (is-same (omega arith)))
 
 -- Places that are filled, from the last to the first.
 pub filled-done : {A : Type 0} (says : ℕ → A) {i : ℕ} (l : List A) → i ≡ 0 → filled says i l ≡ l

@@ -1,15 +1,17 @@
--- A sheet as it is held: F and O rows at their codes' places, S and Q rows in order of their keys, which are searched by halving;
--- unused room is empty (document 01, "Text": "A sheet has at most 65,536 bytes and 1,024 lines"). LookupLaws: what is found there is
--- the row with that key.
+-- A sheet as it is held: F, O and S rows at their codes' places, Q rows in order of their keys, which are searched by halving; unused
+-- room is empty (document 01, "Text": "A sheet has at most 65,536 bytes and 1,024 lines"). LookupLaws: what is found there is the row
+-- with that key.
 use mathlib.Core.List.{List, [], _∷_, map}
-use Prim.Native.Nat.{ℕ, zero, suc, _+_, min}
+use Prim.Native.Nat.{ℕ, zero, suc, _+_, _-_, _*_, min}
 use lib.Dec.{eqb, ltb}
 use lib.ListN.{getD, length, take, set, replicate}
 use Rattle.laws.specs.Truth.{pick}
+use Rattle.laws.specs.Text.{byte}
 use Rattle.laws.specs.Bytes.{sameBytes}
+use Rattle.laws.specs.Search.{firstWhere}
 use Rattle.laws.specs.Order.{byOrder, bytesOrder}
 use Rattle.lists.specs.Places.{full}
-use Rattle.halving.specs.Halving.{keyAt, middle, findIn}
+use Rattle.halving.specs.Halving.{keyAt, middle}
 use Rattle.series.specs.declared.Series.{Series}
 use Rattle.series.specs.Key.{highKey, natureKey}
 use Rattle.amounts.specs.declared.IndexLine.{IndexLine}
@@ -18,7 +20,7 @@ use Rattle.sheets.specs.declared.Found.{Found}
 use Rattle.sheets.specs.declared.StockRow.{StockRow}
 use Rattle.sheets.specs.declared.PriceRow.{PriceRow}
 use Rattle.sheets.specs.declared.Sheet.{Sheet}
-use Rattle.sheets.specs.Rows.{Rows, futureCodes, optionCodes, found, nothing, noIndex, noStock, noPrice, clearingIn, indexIn}
+use Rattle.sheets.specs.Rows.{Rows, futureCodes, optionCodes, twoCapitals, found, nothing, noIndex, noStock, noPrice, clearingIn, indexIn}
 
 -- how many codes stand before this one; all of them where it is none of them
 unfoldable pub placeIn : List (List ℕ) → List ℕ → ℕ
@@ -31,10 +33,18 @@ futurePlace code = placeIn futureCodes code
 unfoldable pub optionPlace : List ℕ → ℕ
 optionPlace code = placeIn optionCodes code
 
--- the place of a stock's row among so many, by its two letters; a code that has more than them names no stock
-unfoldable pub stockAt : List ℕ → List ℕ → ℕ → List ℕ → ℕ
-stockAt firsts seconds count code =
-    pick (eqb (getD code 2 0) 0) (findIn firsts seconds count (getD code 0 0 ∷ getD code 1 0 ∷ [])) count
+-- 26 times a stock's first capital, from A, and its second; 676 where a code is not two capitals
+unfoldable pub stockPlace : List ℕ → ℕ
+stockPlace code = pick (twoCapitals code) ((getD code 0 0 - byte "A") * 26 + (getD code 1 0 - byte "A")) 676
+
+-- the S line of the stock at a place
+unfoldable pub stockAt : List StockRow → ℕ → StockLine
+stockAt rows place = firstWhere (λ (r : StockRow). eqb (stockPlace (r .code)) place) (λ (r : StockRow). r .line) noStock rows
+
+-- what is said of each number below n
+unfoldable pub tabled : {A : Type 0} → (ℕ → A) → ℕ → List A
+tabled says zero = []
+tabled says (suc n) = says 0 ∷ tabled (λ (i : ℕ). says (suc i)) n
 
 -- the key of a Q row's series, half by half
 abbrev pub rowKey : PriceRow → List ℕ
@@ -73,10 +83,7 @@ laidOut number line rows =
       day = rows .day;
       futures = map (clearingIn (rows .futures)) futureCodes;
       options = map (indexIn (rows .options)) optionCodes;
-      stocks = full 1024 noStock (map (λ (r : StockRow). r .line) (rows .stocks));
-      firsts = full 1024 0 (map (λ (r : StockRow). getD (r .code) 0 0) (rows .stocks));
-      seconds = full 1024 0 (map (λ (r : StockRow). getD (r .code) 1 0) (rows .stocks));
-      listed = length (rows .stocks);
+      stocks = tabled (stockAt (rows .stocks)) 676;
       prices = full 1024 noPrice (rows .prices);
       quoted = length (rows .prices);
     }
@@ -89,7 +96,7 @@ unfoldable pub indexOn : Sheet → List ℕ → IndexLine
 indexOn sheet code = getD (sheet .options) (optionPlace code) noIndex
 
 unfoldable pub stockOn : Sheet → List ℕ → StockLine
-stockOn sheet code = getD (sheet .stocks) (stockAt (sheet .firsts) (sheet .seconds) (sheet .listed) code) noStock
+stockOn sheet code = getD (sheet .stocks) (stockPlace code) noStock
 
 unfoldable pub priceOn : Sheet → Series → Found
 priceOn sheet s = priceAmong (take (sheet .quoted) (sheet .prices)) (highKey s ∷ natureKey (s .nature) ∷ [])

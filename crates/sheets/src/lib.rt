@@ -1,16 +1,15 @@
-// The day's sheet, read into plain fields, and where each of its rows is found: F and O rows by place, S and Q rows by halving.
+// The day's sheet, read into plain fields, and where each of its rows is found: F, O and S rows by place, Q rows by halving.
 ghost use mathlib.Core.Path.{_≡_};
 ghost use mathlib.Core.List.{[], _∷_};
 ghost use Prim.Native.Nat.{ℕ, _+_, _≤_, _<_};
 ghost use lib.ListN.{getD, take, replicate};
 ghost use Rattle.laws.specs.Order.{byOrder, bytesOrder};
 ghost use Rattle.halving.specs.Halving.{keyAt, middle};
-ghost use Rattle.sheets.specs.Rows.{nothing, found, noIndex, noStock, noPrice, noRows};
-ghost use Rattle.sheets.specs.Sheet.{futurePlace, optionPlace, stockAt, rowKey, priceAmong, filled, pricesAt, laidOut};
+ghost use Rattle.sheets.specs.Rows.{twoCapitals, nothing, found, noIndex, noStock, noPrice, noRows};
+ghost use Rattle.sheets.specs.Sheet.{futurePlace, optionPlace, stockPlace, rowKey, priceAmong, filled, pricesAt, laidOut};
 ghost use Rattle.sheets.specs.Seeking.{searchFrom, foundAt};
 use amounts::IndexLine;
 use amounts::StockLine;
-use laws::Order;
 use series::Halves;
 use series::Nature;
 use series::Series;
@@ -45,18 +44,15 @@ pub struct PriceRow {
     pub price: u32,
 }
 
-// What a text reads as. Its number and line, 0 and 0 where it is a sheet; the day; the F and O rows, each at its code's place; the
-// S rows with the two letters of each, and the Q rows, both in order with a count.
+// What a text reads as. Its number and line, 0 and 0 where it is a sheet; the day; the F, O and S rows, each at its code's place; the
+// Q rows in order with a count.
 pub struct Sheet {
     pub number: u8,
     pub line: u32,
     pub day: u32,
     pub futures: [Found; 8],
     pub options: [IndexLine; 4],
-    pub stocks: [StockLine; 1024],
-    pub firsts: [u64; 1024],
-    pub seconds: [u64; 1024],
-    pub listed: usize,
+    pub stocks: [StockLine; 676],
     pub prices: [PriceRow; 1024],
     pub quoted: usize,
 }
@@ -140,10 +136,7 @@ pub fn empty_sheet(number: u8, line: u32) -> Sheet
         day: 0,
         futures: [none; 8],
         options: [index; 4],
-        stocks: [stock; 1024],
-        firsts: [0; 1024],
-        seconds: [0; 1024],
-        listed: 0,
+        stocks: [stock; 676],
         prices: [price; 1024],
         quoted: 0,
     }
@@ -199,14 +192,21 @@ pub fn option_place(code: [u8; 3]) -> usize
     4
 }
 
-// The place of a stock, by its two letters and a 0 byte, among the first `count` rows; `count` where it has no row.
-pub fn stock_place<'a>(firsts: &'a [u64], seconds: &'a [u64], count: usize, code: [u8; 3]) -> usize
-    ensures { λ r. ⌜ r ≡ stockAt (now (firsts .entry)) (now (seconds .entry)) count code ⌝ }
+// Whether a code is two capitals.
+pub fn two_capitals(code: [u8; 3]) -> bool
+    ensures { λ r. ⌜ r ≡ twoCapitals code ⌝ }
 {
-    if code[2] != 0 {
-        return count;
+    laws::and(codes::names_stock(code), code[2] == 0)
+}
+
+// The place of a stock by its two capitals; 676 where a code is no stock's.
+pub fn stock_place(code: [u8; 3]) -> usize
+    ensures { λ r. ⌜ r ≡ stockPlace code ⌝ }
+{
+    if !two_capitals(code) {
+        return 676;
     }
-    halving::find(firsts, seconds, count, code[0] as u64, code[1] as u64)
+    (code[0] - b'A') as usize * 26 + (code[1] - b'A') as usize
 }
 
 fn middle_of(low: usize, high: usize) -> usize
@@ -249,13 +249,19 @@ fn narrowed(s: Search, row: PriceRow, key: Halves) -> Search
 {
     let series = row.series;
     let k = series::halves_of(series);
-    let low = laws::order_of(k.low, key.low);
-    let order = laws::then_by(laws::order_of(k.high, key.high), low);
-    match order {
-        Order::Less => search_from(s.middle + 1, s.high),
-        Order::Same => found_at(s.middle, row.price),
-        Order::More => search_from(s.low, s.middle),
+    if k.high < key.high {
+        return search_from(s.middle + 1, s.high);
     }
+    if key.high < k.high {
+        return search_from(s.low, s.middle);
+    }
+    if k.low < key.low {
+        return search_from(s.middle + 1, s.high);
+    }
+    if key.low < k.low {
+        return search_from(s.low, s.middle);
+    }
+    found_at(s.middle, row.price)
 }
 
 // The price of the series with this key among rows, by halving.

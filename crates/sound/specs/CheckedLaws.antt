@@ -10,6 +10,7 @@ use borrow.Author.Tests.{eq-eqb, le-leb, leb-true}
 use Rattle.laws.specs.Truth.{both}
 use Rattle.laws.specs.TruthLaws.{both-true, both-hold, by-test, same-test, false-unless, clash, failed, passed}
 use Rattle.laws.specs.Search.{everyLine}
+use Rattle.lists.specs.Places.{full}
 use Rattle.lists.specs.Sorted.{ascending}
 use Rattle.dates.specs.Calendar.{isDay}
 use Rattle.rows.specs.declared.Holding.{Holding}
@@ -18,17 +19,28 @@ use Rattle.rows.specs.declared.Book.{Book}
 use Rattle.rows.specs.Rows.{holdingRank, pairRank, emptyHolding, emptyPair, isEmptyHolding, isEmptyPair}
 use Rattle.rows.specs.RowLaws.{empty-holding, empty-pair, empty-holding-is, empty-pair-is}
 use Rattle.rows.specs.Book.{holdingsOf, pairsOf}
-use Rattle.rules.specs.Lots.{covered}
+use Rattle.rules.specs.Lots.{covered, freeRows}
 use Rattle.rules.specs.LotLaws.{covered-all, all-covered}
 use Rattle.rules.specs.Rules.{accountFits, isIdentity, goodHolding, goodPair, rowsSound, soundBook}
-use Rattle.rules.specs.Facts.{SoundRows, Sound}
+use Rattle.rules.specs.Facts.{SoundRows}
 use Rattle.rules.specs.RuleLaws.{rows-are, rows-back, sound-is, sound-back}
 use Rattle.sound.specs.declared.Checked.{Checked}
 use Rattle.sound.specs.declared.Keys.{Keys}
 use Rattle.sound.specs.declared.Places.{Places}
-use Rattle.sound.specs.Checked.{notSound, checkedAs, checkedBook}
+use Rattle.sound.specs.Checked.{notSound, checkedAs, walkOf, notWalked, walkedBook}
 use Rattle.sound.specs.Walk.{noRow, Keyed, KeysAre, Placed, PlacesAre, RoomIs, Walkable}
-use Rattle.sound.specs.LegLaws.{pairs-all-good, pairs-in-order, first-row, second-row, pairs-found}
+use Rattle.sound.specs.KeyedLaws.{keyed-columns}
+use Rattle.sound.specs.LegLaws.{pairs-all-good, pairs-in-order, first-row, second-row, firsts-placed, seconds-placed, pairs-found}
+
+-- What the answer of the lots says: whether each leg finds its lots, and what is free then.
+module _ {c : Checked} (t : Bool) (hs : List Holding) (ps : List Pair) (is : c ≡ checkedAs t hs ps) where
+  checked-says : c .sound ≡ t
+  unfolding checkedAs notSound
+  checked-says = ap (λ (c : Checked). c .sound) is ∙ by-test (λ (t : Bool). checkedAs t hs ps .sound ≡ t) t (λ q. refl) (λ q. refl)
+
+  checked-free : c .sound ≡ true → c .free ≡ full 128 emptyHolding (freeRows hs ps)
+  unfolding checkedAs
+  checked-free e = ap (λ (c : Checked). c .free) is ∙ rw (sym checked-says ∙ e)
 
 -- Rows whose room is empty behind them, good and in order, are sound in their array; and sound rows leave their room empty.
 module _ {A : Type 0} (isEmpty : A → Bool) {empty : A} {good : A → Bool} {rank : A → List ℕ} {n : ℕ} {rows : List A} where
@@ -50,14 +62,14 @@ module _ (b : Book) where
   headTest = both (accountFits (b .account)) (both (isIdentity (b .identity)) (isDay (b .day)))
 
   -- A book that breaks a rule has the answer of no rows.
-  book-broken : (soundBook b ≡ true → ⊥) → notSound ≡ checkedBook b
-  unfolding checkedBook checkedAs
-  book-broken not-sound = ap (λ (t : Bool). checkedAs t (holdingsOf b) (pairsOf b)) (sym (false-unless (soundBook b) not-sound))
+  book-broken : (soundBook b ≡ true → ⊥) → notWalked ≡ walkedBook b
+  unfolding walkedBook
+  book-broken not-sound = rw (false-unless (soundBook b) not-sound)
 
   -- Where head, holdings and pairs are sound, the lots decide.
-  lots-decide : {c : Checked} → headTest ≡ true → SoundRows emptyHolding goodHolding holdingRank (b .held) (b .holdings) → SoundRows emptyPair goodPair pairRank (b .paired) (b .pairs) → c ≡ checkedAs (covered (take (b .held) (b .holdings)) (take (b .paired) (b .pairs))) (take (b .held) (b .holdings)) (take (b .paired) (b .pairs)) → c ≡ checkedBook b
-  unfolding checkedBook holdingsOf pairsOf
-  lots-decide head h p is = is ∙ ap (λ (t : Bool). checkedAs t (holdingsOf b) (pairsOf b)) (same-test (covered (holdingsOf b) (pairsOf b)) (soundBook b) whole parts)
+  lots-decide : headTest ≡ true → SoundRows emptyHolding goodHolding holdingRank (b .held) (b .holdings) → SoundRows emptyPair goodPair pairRank (b .paired) (b .pairs) → covered (holdingsOf b) (pairsOf b) ≡ soundBook b
+  unfolding holdingsOf pairsOf
+  lots-decide head h p = same-test (covered (holdingsOf b) (pairsOf b)) (soundBook b) whole parts
     where
       whole : covered (holdingsOf b) (pairsOf b) ≡ true → soundBook b ≡ true
       whole e =
@@ -76,12 +88,12 @@ module _ (b : Book) where
       parts : soundBook b ≡ true → covered (holdingsOf b) (pairsOf b) ≡ true
       parts e = all-covered (holdingsOf b) (pairsOf b) (sound-is b e .never-negative)
 
-  pub head-broken : headTest ≡ false → notSound ≡ checkedBook b
+  pub head-broken : headTest ≡ false → notWalked ≡ walkedBook b
   head-broken e =
       book-broken (λ t. let s = sound-is b t in clash (both-hold (le-leb (b .account) 9999999 (s .account-fits)) (both-hold (s .identity-is) (s .day-is))) e)
 
   module _ {room : Bool} (head : headTest ≡ true) (is : RoomIs (b .holdings) (b .held) (b .pairs) (b .paired) room) where
-    pub room-broken : not room ≡ true → notSound ≡ checkedBook b
+    pub room-broken : not room ≡ true → notWalked ≡ walkedBook b
     room-broken fails =
         book-broken (λ t.
         let s = sound-is b t in
@@ -107,7 +119,7 @@ module _ (b : Book) where
       few-paired = leb-true (b .paired) 128 (both-true (leb (b .held) 128) _ room-counts .1)
 
       module _ {keys : Keys} (known : KeysAre (b .holdings) (b .held) keys) where
-        pub rows-broken : not (keys .sound) ≡ true → notSound ≡ checkedBook b
+        pub rows-broken : not (keys .sound) ≡ true → notWalked ≡ walkedBook b
         rows-broken fails =
             book-broken (λ t.
             let s = sound-is b t in
@@ -117,17 +129,17 @@ module _ (b : Book) where
           rows-tested : both (everyLine goodHolding (take (b .held) (b .holdings))) (ascending holdingRank (take (b .held) (b .holdings))) ≡ true
           rows-tested = passed (known .tested) good
 
+          rows-room : b .held ≤ length (b .holdings)
+          rows-room = let n = is .holdings-long in let few = few-held in omega arith
+
           rows-keyed : Keyed noRow (b .holdings) (b .held) (keys .highs) (keys .lows)
-          rows-keyed = known .keyed (passed refl good)
+          rows-keyed = keyed-columns noRow (b .holdings) (b .held) rows-room few-held (known .highs-are (passed refl good)) (known .lows-are (passed refl good))
 
           all-good : everyLine goodHolding (take (b .held) (b .holdings)) ≡ true
           all-good = both-true (everyLine goodHolding (take (b .held) (b .holdings))) _ rows-tested .0
 
           in-order : ascending holdingRank (take (b .held) (b .holdings)) ≡ true
           in-order = both-true (everyLine goodHolding (take (b .held) (b .holdings))) _ rows-tested .1
-
-          rows-room : b .held ≤ length (b .holdings)
-          rows-room = let n = is .holdings-long in let few = few-held in omega arith
 
           pairs-room : b .paired ≤ length (b .pairs)
           pairs-room = let n = is .pairs-long in let few = few-paired in omega arith
@@ -136,7 +148,7 @@ module _ (b : Book) where
           holdings-sound = sound-rows isEmptyHolding empty-holding few-held (is .holdings-long) (both-true (everyLine isEmptyHolding (drop (b .held) (b .holdings))) _ room-rests .0) all-good in-order
 
           module _ {places : Places} (found : PlacesAre (keys .highs) (keys .lows) (b .held) (b .pairs) (b .paired) places) where
-            pub legs-broken : not (places .sound) ≡ true → notSound ≡ checkedBook b
+            pub legs-broken : not (places .sound) ≡ true → notWalked ≡ walkedBook b
             unfolding holdingsOf pairsOf
             legs-broken fails =
                 book-broken (λ t.
@@ -163,10 +175,16 @@ module _ (b : Book) where
                     second-rows = second-row rows-keyed all-good in-order rows-room (b .pairs) (b .paired) pairs-room (passed (found .tested) kept) placed;
                   }
 
-              pub walk-decides : {c : Checked} → c ≡ checkedAs (covered (take (b .held) (b .holdings)) (take (b .paired) (b .pairs))) (take (b .held) (b .holdings)) (take (b .paired) (b .pairs)) → c ≡ checkedBook b
-              walk-decides e = lots-decide head holdings-sound pairs-sound e
+              module _ {c : Checked} (lots : c ≡ checkedAs (covered (take (b .held) (b .holdings)) (take (b .paired) (b .pairs))) (take (b .held) (b .holdings)) (take (b .paired) (b .pairs))) where
+                decided : c .sound ≡ soundBook b
+                unfolding holdingsOf pairsOf
+                decided = checked-says _ (holdingsOf b) (pairsOf b) lots ∙ lots-decide head holdings-sound pairs-sound
 
--- The answer says whether the book is sound.
-pub answer-says : (b : Book) {c : Checked} → c ≡ checkedBook b → c .sound ≡ soundBook b
-unfolding checkedBook checkedAs notSound
-answer-says b e = ap (λ (c : Checked). c .sound) e ∙ by-test (λ (t : Bool). checkedAs t (holdingsOf b) (pairsOf b) .sound ≡ t) (soundBook b) (λ q. refl) (λ q. refl)
+                pub lots-broken : not (c .sound) ≡ true → notWalked ≡ walkedBook b
+                lots-broken fails = book-broken (λ t. clash t (failed decided fails))
+
+                pub walk-whole : not (c .sound) ≡ false → record { sound = true; free = c .free; highs = keys .highs; lows = keys .lows; firsts = places .firsts; seconds = places .seconds } ≡ walkedBook b
+                unfolding walkedBook walkOf holdingsOf pairsOf
+                walk-whole holds =
+                    let tested = passed (found .tested) kept in
+                    rw (passed decided holds, checked-free _ (holdingsOf b) (pairsOf b) lots (passed refl holds), known .highs-are (passed refl good), known .lows-are (passed refl good), firsts-placed rows-keyed all-good in-order rows-room (b .pairs) (b .paired) pairs-room tested placed, seconds-placed rows-keyed all-good in-order rows-room (b .pairs) (b .paired) pairs-room tested placed)

@@ -5,9 +5,9 @@ use mathlib.Core.List.{List, [], _∷_}
 use Prim.Native.Nat.{ℕ, zero, suc, _+_, _-_, _<_, _≤_}
 use native.Mathlib.Omega.{arith}
 use native.Mathlib.Decide.{decLt}
-use lib.Dec.{eqb, leb, ltb}
+use lib.Dec.{eqb, ltb}
 use borrow.Author.Tests.{eqb-true, ne-eqb, ltb-true}
-use lib.ListN.{getD, length, take, set, length-take, length-set}
+use lib.ListN.{getD, length, take, set, replicate, length-take, length-set}
 use lib.Seq.{getD-take, getD-set-same, getD-set-other}
 use Rattle.laws.specs.declared.Order.the-variants.{Less}
 use Rattle.laws.specs.Truth.{both, either, within}
@@ -36,8 +36,9 @@ use Rattle.rows.specs.Rows.{seriesRank, holdingRank}
 use Rattle.rows.specs.RowLaws.{rank-order}
 use Rattle.rules.specs.Rules.{goodHolding}
 use Rattle.halving.specs.Halving.{keyAt, Rising}
-use Rattle.sound.specs.declared.Keys.{Keys}
+use Rattle.sound.specs.Checked.{column, highOf, lowOf}
 use Rattle.sound.specs.Walk.{noRow, halves, goodLots, alike, Keyed, KeysAre}
+use Rattle.sound.specs.ColumnLaws.{column-none, column-long, column-at, column-next}
 use Rattle.sound.specs.StepLaws.{soundFrom, afterLast, sound-start, sound-end, bad-row, turned-row, next-row}
 
 -- A series like a good one, of its code and date, is good.
@@ -79,12 +80,23 @@ alike-row i a h good is e lots =
     let t = both-true (ltb 0 i) _ (sym is ∙ e) in
     lots ∙ rw (alike-good a (h .series) (t .1) (good (ltb-true 0 i (t .0))))
 
+-- The columns of their keys are the keys of rows.
+pub keyed-columns : (d : Holding) (rows : List Holding) (n : ℕ) {highs lows : List ℕ} → n ≤ length rows → n ≤ 128 → highs ≡ column highOf (take n rows) → lows ≡ column lowOf (take n rows) → Keyed d rows n highs lows
+keyed-columns d rows n room few h l =
+    let size : length (take n rows) ≤ 128 = simp length-take (omega arith) in
+    record {
+      highs-long = rw (h, column-long highOf (take n rows) size) few;
+      lows-long = rw (l, column-long lowOf (take n rows) size) few;
+      highs-are = λ i lt. rw h (column-at highOf d rows n i lt room);
+      lows-are = λ i lt. rw l (column-at lowOf d rows n i lt room);
+    }
+
 -- The keys of no row.
 pub keyed-starts : (d : Holding) (rows : List Holding) (highs lows : List ℕ) → Keyed d rows 0 highs lows
 keyed-starts d rows highs lows = record { highs-long = omega arith; lows-long = omega arith; highs-are = λ i lt. absurd (omega arith); lows-are = λ i lt. absurd (omega arith) }
 
 -- Setting the entry i makes a list that says f below i say it below i + 1.
-pub set-says : (f : ℕ → ℕ) (l : List ℕ) (i x : ℕ) → i < length l → x ≡ f i → ((j : ℕ) → j < i → getD l j 0 ≡ f j) → (j : ℕ) → j < i + 1 → Dec (j < i) → getD (set l i x) j 0 ≡ f j
+set-says : (f : ℕ → ℕ) (l : List ℕ) (i x : ℕ) → i < length l → x ≡ f i → ((j : ℕ) → j < i → getD l j 0 ≡ f j) → (j : ℕ) → j < i + 1 → Dec (j < i) → getD (set l i x) j 0 ≡ f j
 set-says f l i x inside e h j lt (yes q) = getD-set-other l i j x 0 (λ (z : j ≡ i). omega arith) ∙ h j q
 set-says f l i x inside e h j lt (no q) = let is : j ≡ i = omega arith in rw (is, getD-set-same l i x 0 inside) e
 
@@ -98,12 +110,6 @@ keyed-next {d} {rows} {i} {highs} {lows} {k} keyed h l e =
       lows-are = λ j lt. set-says (λ (j : ℕ). natureKey (getD rows j d .series .nature)) lows i (k .low) l (ap (λ (z : Halves). z .low) e) (keyed .lows-are) j lt (decLt j i);
     }
 
-pub keyed-fewer : {d : Holding} {rows : List Holding} {m n : ℕ} {highs lows : List ℕ} → n ≤ m → Keyed d rows m highs lows → Keyed d rows n highs lows
-keyed-fewer le keyed =
-    let h = keyed .highs-long in
-    let l = keyed .lows-long in
-    record { highs-long = omega arith; lows-long = omega arith; highs-are = λ i lt. keyed .highs-are i (omega arith); lows-are = λ i lt. keyed .lows-are i (omega arith) }
-
 good-is : (h : Holding) → goodHolding h ≡ true → goodSeries (h .series) ≡ true
 unfolding goodHolding
 good-is h e = both-true (goodSeries (h .series)) _ e .0
@@ -111,7 +117,10 @@ good-is h e = both-true (goodSeries (h .series)) _ e .0
 -- The walk has come to the row i; w is what it will tell.
 pub record Testing (rows : List Holding) (held : ℕ) (w : Bool) (i : ℕ) (highs lows : List ℕ) : Type 0 where
   pub goes : w ≡ soundFrom goodHolding holdingRank rows held noRow i
-  pub keyed : Keyed noRow rows i highs lows
+  pub few : held ≤ 128
+  pub upto : i ≤ held
+  pub highs-are : highs ≡ column highOf (take i rows)
+  pub lows-are : lows ≡ column lowOf (take i rows)
   pub highs-room : length highs ≡ 128
   pub lows-room : length lows ≡ 128
   pub goods : (k : ℕ) → k < i → goodSeries (getD rows k noRow .series) ≡ true
@@ -120,19 +129,35 @@ pub record Testing (rows : List Holding) (held : ℕ) (w : Bool) (i : ℕ) (high
 abbrev pub rowsTest : List Holding → ℕ → Bool
 rowsTest rows held = both (everyLine goodHolding (take held rows)) (ascending holdingRank (take held rows))
 
-pub testing-starts : (rows : List Holding) (held : ℕ) (highs lows : List ℕ) → length highs ≡ 128 → length lows ≡ 128 → Testing rows held (rowsTest rows held) 0 highs lows
-testing-starts rows held highs lows h l =
-    record { goes = sound-start goodHolding holdingRank rows held noRow; keyed = keyed-starts noRow rows highs lows; highs-room = h; lows-room = l; goods = λ k lt. absurd (omega arith) }
+pub testing-starts : (rows : List Holding) (held : ℕ) → held ≤ 128 → Testing rows held (rowsTest rows held) 0 (replicate 128 0) (replicate 128 0)
+testing-starts rows held few =
+    record {
+      goes = sound-start goodHolding holdingRank rows held noRow;
+      few = few;
+      upto = omega arith;
+      highs-are = column-none highOf rows;
+      lows-are = column-none lowOf rows;
+      highs-room = refl;
+      lows-room = refl;
+      goods = λ k lt. absurd (omega arith);
+    }
 
 module _ {rows : List Holding} {held i : ℕ} {highs lows : List ℕ} (t : Testing rows held (rowsTest rows held) i highs lows) where
   pub last-good : {b : ℕ} → b ≡ i - 1 → 0 < i → goodSeries (getD rows b noRow .series) ≡ true
   last-good e lt = t .goods _ (omega arith)
 
   unsound-keys : soundFrom goodHolding holdingRank rows held noRow i ≡ false → KeysAre rows held (record { sound = false; highs = highs; lows = lows })
-  unsound-keys e = record { tested = sym (t .goes ∙ e); keyed = λ f. absurd (clash f refl) }
+  unsound-keys e = record { tested = sym (t .goes ∙ e); highs-are = λ f. absurd (clash f refl); lows-are = λ f. absurd (clash f refl) }
 
   pub testing-ends : held ≤ length rows → held ≤ i → KeysAre rows held (record { sound = true; highs = highs; lows = lows })
-  testing-ends le h = record { tested = sym (t .goes ∙ sound-end goodHolding holdingRank rows held noRow i le h); keyed = λ f. keyed-fewer h (t .keyed) }
+  testing-ends le h =
+      let upto = t .upto in
+      let all : i ≡ held = omega arith in
+      record {
+        tested = sym (t .goes ∙ sound-end goodHolding holdingRank rows held noRow i le h);
+        highs-are = λ f. rw all at (t .highs-are);
+        lows-are = λ f. rw all at (t .lows-are);
+      }
 
   module _ (lt : i < held) (le : held ≤ length rows) {x : Bool} (is : x ≡ goodHolding (getD rows i noRow)) where
     pub testing-bad : not x ≡ true → KeysAre rows held (record { sound = false; highs = highs; lows = lows })
@@ -142,11 +167,14 @@ module _ {rows : List Holding} {held i : ℕ} {highs lows : List ℕ} (t : Testi
       good-here : goodSeries (getD rows i noRow .series) ≡ true
       good-here = good-is (getD rows i noRow) (passed is ok)
 
+      keyed-here : Keyed noRow rows i highs lows
+      keyed-here = let few = t .few in keyed-columns noRow rows i (omega arith) (omega arith) (t .highs-are) (t .lows-are)
+
       -- The order of the keys is that of the rows.
       keys-order : (j : ℕ) → j < i → bytesOrder (keyAt highs lows j) (halves (getD rows i noRow .series)) ≡ bytesOrder (holdingRank (getD rows j noRow)) (holdingRank (getD rows i noRow))
       unfolding holdingRank
       keys-order j q =
-          rw (t .keyed .highs-are j q, t .keyed .lows-are j q) (halves-order (getD rows j noRow .series) (getD rows i noRow .series) (t .goods j q) good-here ∙ sym (rank-order (getD rows j noRow .series) (getD rows i noRow .series)))
+          rw (keyed-here .highs-are j q, keyed-here .lows-are j q) (halves-order (getD rows j noRow .series) (getD rows i noRow .series) (t .goods j q) good-here ∙ sym (rank-order (getD rows j noRow .series) (getD rows i noRow .series)))
 
       row-after : y ≡ afterLast goodHolding holdingRank rows held noRow i
       row-after = after ∙ rw (key, last) (go i refl)
@@ -162,15 +190,17 @@ module _ {rows : List Holding} {held i : ℕ} {highs lows : List ℕ} (t : Testi
       good-next j q (yes z) = t .goods j z
       good-next j q (no z) = let e : j ≡ i = omega arith in rw e good-here
 
-      pub testing-next : held ≤ 128 → not y ≡ false → Testing rows held (rowsTest rows held) (i + 1) (set highs i (k .high)) (set lows i (k .low))
-      testing-next few holds =
-          let h = t .highs-room in
-          let l = t .lows-room in
+      pub testing-next : not y ≡ false → Testing rows held (rowsTest rows held) (i + 1) (set highs i (k .high)) (set lows i (k .low))
+      testing-next holds =
+          let few = t .few in
           record {
             goes = t .goes ∙ next-row goodHolding holdingRank rows held noRow i lt le is ok row-after holds;
-            keyed = keyed-next (t .keyed) (omega arith) (omega arith) key;
-            highs-room = simp length-set h;
-            lows-room = simp length-set l;
+            few = few;
+            upto = omega arith;
+            highs-are = column-next highOf noRow rows i (t .highs-are) (omega arith) (omega arith) (ap (λ (z : Halves). z .high) key);
+            lows-are = column-next lowOf noRow rows i (t .lows-are) (omega arith) (omega arith) (ap (λ (z : Halves). z .low) key);
+            highs-room = simp length-set (t .highs-room);
+            lows-room = simp length-set (t .lows-room);
             goods = λ j q. good-next j q (decLt j i);
           }
 

@@ -7,22 +7,19 @@ use native.Mathlib.Omega.{arith}
 use native.Mathlib.Decide.{decLt}
 use lib.Dec.{eqb, ltb}
 use borrow.Author.Tests.{ne-eqb, lt-ltb, ltb-true}
-use lib.ListN.{getD, length, take, set, length-take, length-set}
+use lib.ListN.{getD, length, take, set, replicate, length-take, length-set}
 use lib.Seq.{getD-take}
 use Rattle.laws.specs.declared.Order.{Order}
-use Rattle.laws.specs.declared.Order.the-variants.{Less, Same, More}
+use Rattle.laws.specs.declared.Order.the-variants.{Less}
 use Rattle.laws.specs.Truth.{both, either}
 use Rattle.laws.specs.TruthLaws.{both-true, both-hold, by-test, clash, passed}
-use Rattle.laws.specs.Bytes.{sameBytes}
-use Rattle.laws.specs.ByteLaws.{are-same}
 use Rattle.laws.specs.Search.{everyLine}
 use Rattle.laws.specs.SearchLaws.{every-at}
 use Rattle.laws.specs.Order.{orderOf, isLess, thenBy, bytesOrder, join}
 use Rattle.laws.specs.OrderLaws.{is-less, is-same, is-more, less-says, split, then-same}
-use Rattle.lists.specs.Sorted.{sumOf, ascendingFrom, ascending, stands}
-use Rattle.lists.specs.SortedLaws.{look-none}
+use Rattle.lists.specs.Sorted.{ascendingFrom, ascending, stands}
+use Rattle.lists.specs.SortedLaws.{look-none, one-of-all, stands-at}
 use Rattle.series.specs.declared.Series.{Series}
-use Rattle.series.specs.declared.Side.{Side}
 use Rattle.series.specs.Checks.{goodSeries}
 use Rattle.series.specs.declared.Halves.{Halves}
 use Rattle.series.specs.Natures.{letterOf, strikeOf}
@@ -32,18 +29,19 @@ use Rattle.rows.specs.declared.Holding.{Holding}
 use Rattle.rows.specs.declared.Pair.{Pair}
 use Rattle.rows.specs.Rows.{seriesRank, holdingRank, pairRank, newHolding, lotsOn}
 use Rattle.rows.specs.Book.{holdingIn}
-use Rattle.rules.specs.Lots.{Leg, firstLeg, secondLeg, ties, tiedBy, tied, total, covered}
+use Rattle.rules.specs.Lots.{Leg, firstLeg, secondLeg, tiedBy, tied, total, covered}
 use Rattle.rules.specs.LotLaws.{ties-itself, new-lots, covered-all}
-use Rattle.rules.specs.Rules.{countsFit, goodHolding, goodPair}
-use Rattle.rules.specs.Facts.{SoundRows, Counts, GoodPair}
-use Rattle.rules.specs.RuleLaws.{counts-are, pair-is}
+use Rattle.rules.specs.Rules.{goodHolding, goodPair}
+use Rattle.rules.specs.Facts.{Counts, GoodPair}
+use Rattle.rules.specs.RuleLaws.{holding-is, counts-are, pair-is}
 use Rattle.halving.specs.Halving.{keyAt, findIn, Rising}
 use Rattle.halving.specs.HalvingLaws.{find-at, find-says}
 use Rattle.sound.specs.declared.Legs.{Legs}
-use Rattle.sound.specs.declared.Places.{Places}
+use Rattle.sound.specs.Checked.{column, placeIn}
 use Rattle.sound.specs.Walk.{noRow, noPair, halves, standing, Keyed, LegKey, rowOf, legsFound, rowRank, LegRow, LegRows, Placed, PlacesAre}
 use Rattle.sound.specs.StepLaws.{soundFrom, afterLast, sound-start, sound-end, bad-row, turned-row, next-row}
-use Rattle.sound.specs.KeyedLaws.{set-says, good-at, rising-keys}
+use Rattle.sound.specs.ColumnLaws.{column-none, column-at, column-next, column-same, place-row}
+use Rattle.sound.specs.KeyedLaws.{good-at, rising-keys}
 
 -- A leg's key is made of its parts, and its row is the one of its key.
 pub key-made : (s : Series) {k : Halves} → Fits s → k .high ≡ ((getD (s .code) 0 0 * 256 + getD (s .code) 1 0) * 256 + getD (s .code) 2 0) * 4294967296 + s .date → k .low ≡ letterOf (s .nature) * 4294967296 + strikeOf (s .nature) → LegKey s k
@@ -88,6 +86,8 @@ both-sought p is holds a b e =
 pub record Placing (highs lows : List ℕ) (held : ℕ) (pairs : List Pair) (paired : ℕ) (w : Bool) (i : ℕ) (firsts seconds : List ℕ) : Type 0 where
   pub goes : w ≡ soundFrom (legsFound highs lows held) (rowRank highs lows held) pairs paired noPair i
   pub placed : Placed highs lows held pairs i firsts seconds
+  pub few : paired ≤ 128
+  pub upto : i ≤ paired
   pub firsts-room : length firsts ≡ 128
   pub seconds-room : length seconds ≡ 128
 
@@ -95,14 +95,24 @@ pub record Placing (highs lows : List ℕ) (held : ℕ) (pairs : List Pair) (pai
 abbrev pub pairsTest : List ℕ → List ℕ → ℕ → List Pair → ℕ → Bool
 pairsTest highs lows held pairs paired = both (everyLine (legsFound highs lows held) (take paired pairs)) (ascending (rowRank highs lows held) (take paired pairs))
 
-pub placing-starts : (highs lows : List ℕ) (held : ℕ) (pairs : List Pair) (paired : ℕ) (firsts seconds : List ℕ) → length firsts ≡ 128 → length seconds ≡ 128 → Placing highs lows held pairs paired (pairsTest highs lows held pairs paired) 0 firsts seconds
-placing-starts highs lows held pairs paired firsts seconds f s =
+pub placing-starts : (highs lows : List ℕ) (held : ℕ) (pairs : List Pair) (paired : ℕ) → paired ≤ 128 → Placing highs lows held pairs paired (pairsTest highs lows held pairs paired) 0 (replicate 128 0) (replicate 128 0)
+placing-starts highs lows held pairs paired few =
     record {
       goes = sound-start (legsFound highs lows held) (rowRank highs lows held) pairs paired noPair;
-      placed = record { first-is = λ j lt. absurd (omega arith); second-is = λ j lt. absurd (omega arith); first-fits = λ j lt. absurd (omega arith); second-fits = λ j lt. absurd (omega arith) };
-      firsts-room = f;
-      seconds-room = s;
+      placed = record { firsts-are = column-none _ pairs; seconds-are = column-none _ pairs; first-fits = λ j lt. absurd (omega arith); second-fits = λ j lt. absurd (omega arith) };
+      few = few;
+      upto = omega arith;
+      firsts-room = refl;
+      seconds-room = refl;
     }
+
+-- The row of each leg, by the place of its pair.
+module _ {highs lows : List ℕ} {held : ℕ} {pairs : List Pair} {n : ℕ} {firsts seconds : List ℕ} (placed : Placed highs lows held pairs n firsts seconds) (le : n ≤ length pairs) (j : ℕ) (lt : j < n) where
+  first-at : getD firsts j 0 ≡ rowOf highs lows held (getD pairs j noPair .first)
+  first-at = rw (placed .firsts-are) (column-at (λ p. rowOf highs lows held (p .first)) noPair pairs n j lt le)
+
+  second-at : getD seconds j 0 ≡ rowOf highs lows held (getD pairs j noPair .second)
+  second-at = rw (placed .seconds-are) (column-at (λ p. rowOf highs lows held (p .second)) noPair pairs n j lt le)
 
 module _ {highs lows : List ℕ} {held : ℕ} {pairs : List Pair} {paired i : ℕ} {firsts seconds : List ℕ} (t : Placing highs lows held pairs paired (pairsTest highs lows held pairs paired) i firsts seconds) where
   unsound-places : soundFrom (legsFound highs lows held) (rowRank highs lows held) pairs paired noPair i ≡ false → PlacesAre highs lows held pairs paired (record { sound = false; firsts = firsts; seconds = seconds })
@@ -110,10 +120,11 @@ module _ {highs lows : List ℕ} {held : ℕ} {pairs : List Pair} {paired i : �
 
   pub placing-ends : paired ≤ length pairs → paired ≤ i → PlacesAre highs lows held pairs paired (record { sound = true; firsts = firsts; seconds = seconds })
   placing-ends le h =
-      let p = t .placed in
+      let upto = t .upto in
+      let all : i ≡ paired = omega arith in
       record {
         tested = sym (t .goes ∙ sound-end (legsFound highs lows held) (rowRank highs lows held) pairs paired noPair i le h);
-        placed = λ f. record { first-is = λ j lt. p .first-is j (omega arith); second-is = λ j lt. p .second-is j (omega arith); first-fits = λ j lt. p .first-fits j (omega arith); second-fits = λ j lt. p .second-fits j (omega arith) };
+        placed = λ f. subst (λ (n : ℕ). Placed highs lows held pairs n firsts seconds) all (t .placed);
       }
 
   module _ (lt : i < paired) (le : paired ≤ length pairs) {at : Legs} (legs : LegRows highs lows held (getD pairs i noPair) at) where
@@ -130,7 +141,7 @@ module _ {highs lows : List ℕ} {held : ℕ} {pairs : List Pair} {paired i : �
         where
           go : (m : ℕ) → m ≡ i → either (eqb m 0) (isLess (bytesOrder (getD pairs (m - 1) noPair .kind ∷ getD firsts (m - 1) 0 ∷ getD seconds (m - 1) 0 ∷ getD pairs (m - 1) noPair .r1 ∷ getD pairs (m - 1) noPair .r2 ∷ []) (rowRank highs lows held (getD pairs i noPair)))) ≡ either (eqb m 0) (isLess (bytesOrder (rowRank highs lows held (getD pairs (m - 1) noPair)) (rowRank highs lows held (getD pairs i noPair))))
           go zero e = refl
-          go (suc m) e = rw (ne-eqb (suc m) 0 (λ (z : suc m ≡ 0). omega arith), t .placed .first-is (suc m - 1) (omega arith), t .placed .second-is (suc m - 1) (omega arith))
+          go (suc m) e = rw (ne-eqb (suc m) 0 (λ (z : suc m ≡ 0). omega arith), first-at (t .placed) (omega arith) (suc m - 1) (omega arith), second-at (t .placed) (omega arith) (suc m - 1) (omega arith))
 
       pub placing-turned : not y ≡ true → PlacesAre highs lows held pairs paired (record { sound = false; firsts = firsts; seconds = seconds })
       placing-turned fails = unsound-places (turned-row (legsFound highs lows held) (rowRank highs lows held) pairs paired noPair i lt le (legs .kept-is) ok pair-after fails)
@@ -139,21 +150,22 @@ module _ {highs lows : List ℕ} {held : ℕ} {pairs : List Pair} {paired i : �
       fits-next f h k j q (yes z) = h j z
       fits-next f h k j q (no z) = let e : j ≡ i = omega arith in rw e k
 
-      pub placing-next : paired ≤ 128 → not y ≡ false → Placing highs lows held pairs paired (pairsTest highs lows held pairs paired) (i + 1) (set firsts i (at .first)) (set seconds i (at .second))
-      placing-next few holds =
-          let f = t .firsts-room in
-          let s = t .seconds-room in
+      pub placing-next : not y ≡ false → Placing highs lows held pairs paired (pairsTest highs lows held pairs paired) (i + 1) (set firsts i (at .first)) (set seconds i (at .second))
+      placing-next holds =
+          let few = t .few in
           let p = t .placed in
           record {
             goes = t .goes ∙ next-row (legsFound highs lows held) (rowRank highs lows held) pairs paired noPair i lt le (legs .kept-is) ok pair-after holds;
             placed = record {
-              first-is = λ j q. set-says (λ (j : ℕ). rowOf highs lows held (getD pairs j noPair .first)) firsts i (at .first) (omega arith) (legs .first-is kept-here) (p .first-is) j q (decLt j i);
-              second-is = λ j q. set-says (λ (j : ℕ). rowOf highs lows held (getD pairs j noPair .second)) seconds i (at .second) (omega arith) (legs .second-is kept-here) (p .second-is) j q (decLt j i);
+              firsts-are = column-next (λ p. rowOf highs lows held (p .first)) noPair pairs i (p .firsts-are) (omega arith) (omega arith) (legs .first-is kept-here);
+              seconds-are = column-next (λ p. rowOf highs lows held (p .second)) noPair pairs i (p .seconds-are) (omega arith) (omega arith) (legs .second-is kept-here);
               first-fits = λ j q. fits-next (λ (p : Pair). p .first) (p .first-fits) (legs .first-fits kept-here) j q (decLt j i);
               second-fits = λ j q. fits-next (λ (p : Pair). p .second) (p .second-fits) (legs .second-fits kept-here) j q (decLt j i);
             };
-            firsts-room = simp length-set f;
-            seconds-room = simp length-set s;
+            few = few;
+            upto = omega arith;
+            firsts-room = simp length-set (t .firsts-room);
+            seconds-room = simp length-set (t .seconds-room);
           }
 
 -- A test that each row passes, by its place, every row passes.
@@ -176,25 +188,57 @@ module _ {A : Type 0} (test : A → Bool) (one other : A → List ℕ) (same : (
   orders-agree [] e = refl
   orders-agree (x ∷ l) e = let h = both-true (test x) _ e in orders-from x l (h .0) (h .1)
 
--- A row of a rank that stands in a list has its place there.
-stands-at : {A : Type 0} (rank : A → List ℕ) (k : List ℕ) (d : A) (l : List A) → stands rank k l ≡ true → (i : ℕ) × ((i < length l) × (rank (getD l i d) ≡ k))
-unfolding stands
-stands-at rank k d [] e = absurd (clash e refl)
-stands-at rank k d (x ∷ l) e = go (sameBytes (rank x) k) refl e (λ f. stands-at rank k d l f)
-  where
-    later : ((i : ℕ) × ((i < length l) × (rank (getD l i d) ≡ k))) → (i : ℕ) × ((i < length (x ∷ l)) × (rank (getD (x ∷ l) i d) ≡ k))
-    later p = (suc (p .0), (omega (arith, p .1 .0), p .1 .1))
+-- Good pairs whose lots are there have their legs among the holdings.
+module _ (hs : List Holding) (ps : List Pair) (goods : everyLine goodPair ps ≡ true) (lots : covered hs ps ≡ true) where
+  leg-held : (leg : Leg) → 1 ≤ tied ps (leg .series) (leg .side) → stands holdingRank (seriesRank (leg .series)) hs ≡ true
+  unfolding total holdingIn
+  leg-held leg some =
+      by-test (λ (t : Bool). stands holdingRank (seriesRank (leg .series)) hs ≡ t → t ≡ true) (stands holdingRank (seriesRank (leg .series)) hs)
+      (λ q e. refl)
+      (λ q e.
+      let none : total hs (leg .series) (leg .side) ≡ 0 = ap (lotsOn (leg .side)) (look-none holdingRank (newHolding (leg .series)) (seriesRank (leg .series)) hs e) ∙ new-lots (leg .side) (leg .series) in
+      let le = covered-all hs ps lots (leg .series) (leg .side) in
+      absurd (omega arith))
+      refl
 
-    go : (t : Bool) → sameBytes (rank x) k ≡ t → either t (stands rank k l) ≡ true → (stands rank k l ≡ true → (i : ℕ) × ((i < length l) × (rank (getD l i d) ≡ k))) → (i : ℕ) × ((i < length (x ∷ l)) × (rank (getD (x ∷ l) i d) ≡ k))
-    go true q f rest = (zero, (omega arith, are-same (rank x) k q))
-    go false q f rest = later (rest f)
+  module _ (j : ℕ) (lt : j < length ps) where
+    pub good-facts : GoodPair (getD ps j noPair)
+    good-facts = pair-is _ (every-at goodPair ps j noPair goods lt)
 
--- A sum is no less than any of its parts.
-sum-at : {A : Type 0} (f : A → ℕ) (l : List A) (i : ℕ) (d : A) → i < length l → f (getD l i d) ≤ sumOf f l
-unfolding sumOf
-sum-at f [] i d lt = absurd (omega arith)
-sum-at f (x ∷ l) zero d lt = omega arith
-sum-at f (x ∷ l) (suc i) d lt = let h = sum-at f l i d (omega arith) in omega arith
+    counts : Counts (getD ps j noPair .r1) (getD ps j noPair .r2) (getD ps j noPair .units)
+    counts = counts-are _ _ _ (good-facts .counts)
+
+    pub first-held : stands holdingRank (seriesRank (getD ps j noPair .first)) hs ≡ true
+    unfolding tied tiedBy firstLeg
+    first-held =
+        let leg = firstLeg (getD ps j noPair) in
+        let own = ties-itself leg in
+        let more = one-of-all (tiedBy (leg .series) (leg .side)) ps j noPair lt in
+        let some = counts .some-lots1 in
+        leg-held leg (omega arith)
+
+    pub second-held : stands holdingRank (seriesRank (getD ps j noPair .second)) hs ≡ true
+    unfolding tied tiedBy secondLeg
+    second-held =
+        let leg = secondLeg (getD ps j noPair) in
+        let own = ties-itself leg in
+        let more = one-of-all (tiedBy (leg .series) (leg .side)) ps j noPair lt in
+        let some = counts .some-lots2 in
+        leg-held leg (omega arith)
+
+-- A good series that stands among good rows is that of one of them; in rows in order, of the row at its place.
+stands-row : {P : Type 0} (rows : List Holding) (held : ℕ) (s : Series) → held ≤ length rows → everyLine goodHolding (take held rows) ≡ true → goodSeries s ≡ true → stands holdingRank (seriesRank s) (take held rows) ≡ true → ((i : ℕ) → i < held → getD rows i noRow .series ≡ s → P) → P
+unfolding holdingRank seriesRank seriesOrder
+stands-row {P} rows held s room good g e found =
+    stands-at holdingRank (seriesRank s) noRow P (take held rows) e (λ i inside same.
+    let size : length (take held rows) ≡ held = simp length-take (omega arith) in
+    let lt : i < held = omega arith in
+    let there = getD-take held rows i noRow lt in
+    let row = holding-is _ (every-at goodHolding (take held rows) i noRow good inside) in
+    found i lt (sym (ap (λ (h : Holding). h .series) there) ∙ same-series _ s (row .series-good) g (sym (is-same (ap (λ (l : List ℕ). getD l 0 0) same)))))
+
+pub placed-row : (rows : List Holding) (held : ℕ) (s : Series) → held ≤ length rows → everyLine goodHolding (take held rows) ≡ true → ascending holdingRank (take held rows) ≡ true → goodSeries s ≡ true → stands holdingRank (seriesRank s) (take held rows) ≡ true → (placeIn (take held rows) s < held) × (getD rows (placeIn (take held rows) s) noRow .series ≡ s)
+placed-row rows held s room good order g e = stands-row rows held s room good g e (λ i lt one. rw (place-row noRow rows held i order room lt one) (lt, one))
 
 one-key : (a b : Series) → highKey a ≡ highKey b → natureKey (a .nature) ≡ natureKey (b .nature) → key a ≡ key b
 unfolding key
@@ -226,18 +270,12 @@ module _ {rows : List Holding} {held : ℕ} {highs lows : List ℕ} (keyed : Key
 
   -- A good series that is held is found.
   held-found : (s : Series) → goodSeries s ≡ true → stands holdingRank (seriesRank s) (take held rows) ≡ true → rowOf highs lows held s < held
-  unfolding rowOf holdingRank seriesRank seriesOrder
-  held-found s g e = here (stands-at holdingRank (seriesRank s) noRow (take held rows) e)
-    where
-      here : ((i : ℕ) × ((i < length (take held rows)) × (holdingRank (getD (take held rows) i noRow) ≡ seriesRank s))) → rowOf highs lows held s < held
-      here p =
-          let size : length (take held rows) ≡ held = simp length-take (omega arith) in
-          let lt : p .0 < held = omega (arith, p .1 .0) in
-          let rank : key (getD rows (p .0) noRow .series) ≡ key s = ap (λ (l : List ℕ). getD l 0 0) (rw (getD-take held rows (p .0) noRow lt) at (p .1 .1)) in
-          let one : getD rows (p .0) noRow .series ≡ s = same-series (getD rows (p .0) noRow .series) s (good-at keyed good room (p .0) lt) g (sym (is-same rank)) in
-          let at : keyAt highs lows (p .0) ≡ halves s = rw (keyed .highs-are (p .0) lt, keyed .lows-are (p .0) lt, one) in
-          let is = find-at (halves s) rising (p .0) lt at in
-          omega (arith, is)
+  unfolding rowOf
+  held-found s g e =
+      stands-row rows held s room good g e (λ i lt one.
+      let at : keyAt highs lows i ≡ halves s = rw (keyed .highs-are i lt, keyed .lows-are i lt, one) in
+      let is = find-at (halves s) rising i lt at in
+      omega (arith, is))
 
   -- The order of the rows of two legs is that of the legs.
   low-fits : (s : Series) → rowOf highs lows held s < held → natureKey (s .nature) < 2 ^ 40
@@ -306,56 +344,38 @@ module _ {rows : List Holding} {held : ℕ} {highs lows : List ℕ} (keyed : Key
       pub first-row : (j : ℕ) → j < paired → (getD firsts j 0 < held) × (getD rows (getD firsts j 0) noRow .series ≡ getD pairs j noPair .first)
       first-row j lt =
           let h = both-found (getD pairs j noPair) (found-at j lt) .1 .0 in
-          rw (placed .first-is j lt) (h, row-found (getD pairs j noPair .first) (placed .first-fits j lt) h)
+          rw (first-at placed space j lt) (h, row-found (getD pairs j noPair .first) (placed .first-fits j lt) h)
 
       pub second-row : (j : ℕ) → j < paired → (getD seconds j 0 < held) × (getD rows (getD seconds j 0) noRow .series ≡ getD pairs j noPair .second)
       second-row j lt =
           let h = both-found (getD pairs j noPair) (found-at j lt) .1 .1 in
-          rw (placed .second-is j lt) (h, row-found (getD pairs j noPair .second) (placed .second-fits j lt) h)
+          rw (second-at placed space j lt) (h, row-found (getD pairs j noPair .second) (placed .second-fits j lt) h)
+
+      -- Their rows are the places of their legs.
+      pub firsts-placed : firsts ≡ column (λ p. placeIn (take held rows) (p .first)) (take paired pairs)
+      firsts-placed =
+          placed .firsts-are
+          ∙ column-same _ _ noPair (take paired pairs) (λ j lt.
+          let at = at-pair j lt in
+          let row = rw (first-at placed space j (at .0)) at (first-row j (at .0)) in
+          rw (at .1) (sym (place-row noRow rows held _ order room (row .0) (row .1))))
+
+      pub seconds-placed : seconds ≡ column (λ p. placeIn (take held rows) (p .second)) (take paired pairs)
+      seconds-placed =
+          placed .seconds-are
+          ∙ column-same _ _ noPair (take paired pairs) (λ j lt.
+          let at = at-pair j lt in
+          let row = rw (second-at placed space j (at .0)) at (second-row j (at .0)) in
+          rw (at .1) (sym (place-row noRow rows held _ order room (row .0) (row .1))))
 
     -- And the other way round: good pairs in order whose lots are there have their legs found, in order of their rows.
     module _ (goods : everyLine goodPair (take paired pairs) ≡ true) (sorted : ascending pairRank (take paired pairs) ≡ true) (lots : covered (take held rows) (take paired pairs) ≡ true) where
-      leg-held : (s : Series) (d : Side) → 1 ≤ tied (take paired pairs) s d → stands holdingRank (seriesRank s) (take held rows) ≡ true
-      unfolding total holdingIn
-      leg-held s d some =
-          by-test (λ (t : Bool). stands holdingRank (seriesRank s) (take held rows) ≡ t → t ≡ true) (stands holdingRank (seriesRank s) (take held rows))
-          (λ q e. refl)
-          (λ q e.
-          let none : total (take held rows) s d ≡ 0 = ap (lotsOn d) (look-none holdingRank (newHolding s) (seriesRank s) (take held rows) e) ∙ new-lots d s in
-          let le = covered-all (take held rows) (take paired pairs) lots s d in
-          absurd (omega arith))
-          refl
-
-      module _ (j : ℕ) (lt : j < length (take paired pairs)) where
-        facts : GoodPair (getD (take paired pairs) j noPair)
-        facts = pair-is _ (every-at goodPair (take paired pairs) j noPair goods lt)
-
-        counts : Counts (getD (take paired pairs) j noPair .r1) (getD (take paired pairs) j noPair .r2) (getD (take paired pairs) j noPair .units)
-        counts = counts-are _ _ _ (facts .counts)
-
-        tied-first : 1 ≤ tied (take paired pairs) (firstLeg (getD (take paired pairs) j noPair) .series) (firstLeg (getD (take paired pairs) j noPair) .side)
-        unfolding tied tiedBy firstLeg
-        tied-first =
-            let leg = firstLeg (getD (take paired pairs) j noPair) in
-            let own = ties-itself leg in
-            let more = sum-at (tiedBy (leg .series) (leg .side)) (take paired pairs) j noPair lt in
-            let some = counts .some-lots1 in
-            omega arith
-
-        tied-second : 1 ≤ tied (take paired pairs) (secondLeg (getD (take paired pairs) j noPair) .series) (secondLeg (getD (take paired pairs) j noPair) .side)
-        unfolding tied tiedBy secondLeg
-        tied-second =
-            let leg = secondLeg (getD (take paired pairs) j noPair) in
-            let own = ties-itself leg in
-            let more = sum-at (tiedBy (leg .series) (leg .side)) (take paired pairs) j noPair lt in
-            let some = counts .some-lots2 in
-            omega arith
-
-        legs-held : legsFound highs lows held (getD (take paired pairs) j noPair) ≡ true
-        unfolding legsFound standing firstLeg secondLeg
-        legs-held =
-            both-hold (both-hold (facts .counts) (facts .standing))
-            (both-hold (lt-ltb _ _ (held-found _ (facts .first-good) (leg-held _ _ tied-first))) (lt-ltb _ _ (held-found _ (facts .second-good) (leg-held _ _ tied-second))))
+      legs-held : (j : ℕ) → j < length (take paired pairs) → legsFound highs lows held (getD (take paired pairs) j noPair) ≡ true
+      unfolding legsFound standing
+      legs-held j lt =
+          let facts = good-facts (take held rows) (take paired pairs) goods lots j lt in
+          both-hold (both-hold (facts .counts) (facts .standing))
+          (both-hold (lt-ltb _ _ (held-found _ (facts .first-good) (first-held (take held rows) (take paired pairs) goods lots j lt))) (lt-ltb _ _ (held-found _ (facts .second-good) (second-held (take held rows) (take paired pairs) goods lots j lt))))
 
       pub pairs-found : pairsTest highs lows held pairs paired ≡ true
       pairs-found =

@@ -1,7 +1,9 @@
 pub mod Checked
 pub mod Walk
+pub mod ColumnLaws
 pub mod StepLaws
 pub mod KeyedLaws
 pub mod LegLaws
 pub mod WalkLaws
 pub mod CheckedLaws
+pub mod WalkedLaws

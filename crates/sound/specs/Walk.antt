@@ -1,5 +1,5 @@
--- What the parts of a book's check ask and answer: rows that are tested, their keys, the rows of a pair's legs, and what a leg takes from a
--- row (document 01, "The book": "Tied lots of a series and side are the sum over pairs").
+-- What the parts of a book's check ask and answer: rows that are tested, their keys, and the rows of a pair's legs, from which it takes its
+-- lots (document 01, "The book": "Tied lots of a series and side are the sum over pairs").
 use mathlib.Core.Path.{_≡_}
 use mathlib.Core.Bool.{Bool, true, not}
 use mathlib.Core.List.{List, [], _∷_}
@@ -12,7 +12,6 @@ use Rattle.laws.specs.Search.{everyLine}
 use Rattle.lists.specs.Sorted.{ascending}
 use Rattle.series.specs.declared.Series.{Series}
 use Rattle.series.specs.declared.Nature.the-variants.{Future}
-use Rattle.series.specs.declared.Side.{Side}
 use Rattle.series.specs.declared.Halves.{Halves}
 use Rattle.series.specs.Natures.{isFuture, strikeOf}
 use Rattle.series.specs.Key.{highKey, natureKey, halvesOf}
@@ -20,14 +19,14 @@ use Rattle.series.specs.KeyLaws.{Fits}
 use Rattle.pairing.specs.Rules.{mayStand}
 use Rattle.rows.specs.declared.Holding.{Holding}
 use Rattle.rows.specs.declared.Pair.{Pair}
-use Rattle.rows.specs.Rows.{holdingRank, pairRank, noLots, lotsOn, lessened, emptyHolding, emptyPair, isEmptyHolding, isEmptyPair}
+use Rattle.rows.specs.Rows.{holdingRank, pairRank, noLots, emptyHolding, emptyPair, isEmptyHolding, isEmptyPair}
 use Rattle.rules.specs.Rules.{countsFit, goodHolding, goodPair}
 use Rattle.rules.specs.Facts.{SoundRows}
 use Rattle.halving.specs.Halving.{findIn}
 use Rattle.sound.specs.declared.Keys.{Keys}
 use Rattle.sound.specs.declared.Legs.{Legs}
 use Rattle.sound.specs.declared.Places.{Places}
-use Rattle.sound.specs.declared.Taken.{Taken}
+use Rattle.sound.specs.Checked.{column, highOf, lowOf}
 
 -- what rows behind the end would be
 abbrev pub noRow : Holding
@@ -62,7 +61,8 @@ pub record Keyed (d : Holding) (rows : List Holding) (n : ℕ) (highs lows : Lis
 -- The walk over the rows tells whether they are good and in order, and if so it has their keys.
 pub record KeysAre (rows : List Holding) (held : ℕ) (k : Keys) : Type 0 where
   pub tested : k .sound ≡ both (everyLine goodHolding (take held rows)) (ascending holdingRank (take held rows))
-  pub keyed : k .sound ≡ true → Keyed noRow rows held (k .highs) (k .lows)
+  pub highs-are : k .sound ≡ true → k .highs ≡ column highOf (take held rows)
+  pub lows-are : k .sound ≡ true → k .lows ≡ column lowOf (take held rows)
 
 -- A leg's key, with the ranges of its parts, which are those of their types.
 pub record LegKey (s : Series) (k : Halves) : Type 0 where
@@ -95,8 +95,8 @@ pub record LegRows (highs lows : List ℕ) (held : ℕ) (p : Pair) (l : Legs) : 
 
 -- The rows of the legs of pairs, pair by pair.
 pub record Placed (highs lows : List ℕ) (held : ℕ) (pairs : List Pair) (n : ℕ) (firsts seconds : List ℕ) : Type 0 where
-  pub first-is : (j : ℕ) → j < n → getD firsts j 0 ≡ rowOf highs lows held (getD pairs j noPair .first)
-  pub second-is : (j : ℕ) → j < n → getD seconds j 0 ≡ rowOf highs lows held (getD pairs j noPair .second)
+  pub firsts-are : firsts ≡ column (λ p. rowOf highs lows held (p .first)) (take n pairs)
+  pub seconds-are : seconds ≡ column (λ p. rowOf highs lows held (p .second)) (take n pairs)
   pub first-fits : (j : ℕ) → j < n → Fits (getD pairs j noPair .first)
   pub second-fits : (j : ℕ) → j < n → Fits (getD pairs j noPair .second)
 
@@ -117,7 +117,3 @@ pub record Walkable (rows : List Holding) (held : ℕ) (pairs : List Pair) (pair
   pub pairs-sound : SoundRows emptyPair goodPair pairRank paired pairs
   pub first-rows : (j : ℕ) → j < paired → (getD firsts j 0 < held) × (getD rows (getD firsts j 0) noRow .series ≡ getD pairs j noPair .first)
   pub second-rows : (j : ℕ) → j < paired → (getD seconds j 0 < held) × (getD rows (getD seconds j 0) noRow .series ≡ getD pairs j noPair .second)
-
--- a row and a leg's lots: whether it has them, and what is left of it then
-abbrev pub takenLots : Holding → Side → ℕ → Taken
-takenLots h d n = record { enough = leb n (lotsOn d h); row = lessened d n h }

@@ -1,18 +1,15 @@
 -- Laws of the walk over the legs of pairs: each leg takes its lots from its row.
 use mathlib.Core.Path.{_≡_, refl, ap, sym, _∙_, subst}
-use mathlib.Core.Bool.{Bool, true, false, not}
+use mathlib.Core.Bool.{Bool, true, false}
 use mathlib.Core.List.{List, [], _∷_, _++_}
 use Prim.Native.Nat.{ℕ, _+_, _-_, _*_, _<_, _≤_}
 use native.Mathlib.Omega.{arith}
 use native.Mathlib.Decide.{decLt}
 use native.Mathlib.Numerals.{add-one}
-use borrow.Author.Tests.{le-leb, lt-leb, leb-true, leb-false}
-use lib.Dec.{leb}
+use borrow.Author.Tests.{le-leb, lt-leb}
 use lib.ListN.{getD, length, take, drop, set, replicate, length-take, length-set, take-append-drop, drop-of-length-le}
 use lib.Seq.{drop-cons, getD-take, getD-set-same, getD-set-other, take-set-lt, drop-set-lt}
-use Rattle.laws.specs.TruthLaws.{failed, passed}
 use Rattle.laws.specs.ByteLaws.{are-same, same-self}
-use Rattle.laws.specs.Search.{everyLine}
 use Rattle.laws.specs.SearchLaws.{every-at}
 use Rattle.lists.specs.Places.{full}
 use Rattle.lists.specs.PlaceLaws.{length-full, drop-full}
@@ -30,10 +27,9 @@ use Rattle.rules.specs.Lots.{Leg, firstLeg, secondLeg, total, covered}
 use Rattle.rules.specs.Rules.{goodHolding, goodPair}
 use Rattle.rules.specs.Facts.{SoundRows, Counts, GoodPair}
 use Rattle.rules.specs.RuleLaws.{counts-are, pair-is}
-use Rattle.rules.specs.LotLaws.{legsOf, takenFrom, takes, covers, afterLegs, taken-rank, new-lots, covers-is, after-is}
-use Rattle.sound.specs.declared.Taken.{Taken}
+use Rattle.rules.specs.LotLaws.{legsOf, takenFrom, takes, covers, afterLegs, taken-rank, covers-is, after-is}
 use Rattle.sound.specs.Checked.{notSound, checkedAs}
-use Rattle.sound.specs.Walk.{noRow, noPair, Walkable, takenLots}
+use Rattle.sound.specs.Walk.{noRow, noPair, Walkable}
 
 rank-same : (h : Holding) (s : Series) → holdingRank h ≡ seriesRank s → sameSeries (h .series) s ≡ true
 unfolding sameSeries holdingRank
@@ -156,21 +152,20 @@ module _ {rows : List Holding} {held : ℕ} {pairs : List Pair} {paired : ℕ} {
   few-seconds g lt = let few = g .ready .holdings-sound .few in let row = g .ready .second-rows _ lt .0 in omega arith
 
   -- A leg whose row has too little ends the walk; else it takes its lots.
-  module _ {leg : Leg} {ls : List Leg} {free : List Holding} {r : ℕ} (g : Going rows held pairs paired firsts seconds (leg ∷ ls) free) (row : (r < held) × (getD rows r noRow .series ≡ leg .series)) {t : Taken} (is : t ≡ takenLots (getD free r noRow) (leg .side) (leg .lots)) where
+  module _ {leg : Leg} {ls : List Leg} {free : List Holding} {r n : ℕ} (g : Going rows held pairs paired firsts seconds (leg ∷ ls) free) (row : (r < held) × (getD rows r noRow .series ≡ leg .series)) (has : n ≡ lotsOn (leg .side) (getD free r noRow)) where
     own-row : sameSeries (getD free r noRow .series) (leg .series) ≡ true
     unfolding holdingRank
     own-row = rank-same (getD free r noRow) (leg .series) (g .walk .ranks r (row .0) ∙ ap seriesRank (row .1))
 
-    leg-lacks : not (t .enough) ≡ true → Refused rows held pairs paired
-    leg-lacks e =
-        uncovered (take held rows) (take paired pairs)
-        (leg-short (g .ready .holdings-sound .few) (g .walk) r (row .0) own-row (leb-false (leg .lots) _ (failed (ap (λ (z : Taken). z .enough) is) e)))
+    leg-lacks : n < leg .lots → Refused rows held pairs paired
+    leg-lacks less =
+        uncovered (take held rows) (take paired pairs) (leg-short (g .ready .holdings-sound .few) (g .walk) r (row .0) own-row (omega arith))
 
-    leg-takes : not (t .enough) ≡ false → Going rows held pairs paired firsts seconds ls (set free r (t .row))
-    leg-takes e =
+    leg-takes : {left : Holding} → leg .lots ≤ n → left ≡ lessened (leg .side) (leg .lots) (getD free r noRow) → Going rows held pairs paired firsts seconds ls (set free r left)
+    leg-takes le is =
         record {
           ready = g .ready;
-          walk = rw (ap (λ (z : Taken). z .row) is) (leg-taken (g .ready .holdings-sound .few) (g .walk) r (row .0) own-row (leb-true (leg .lots) _ (passed (ap (λ (z : Taken). z .enough) is) e)));
+          walk = rw is (leg-taken (g .ready .holdings-sound .few) (g .walk) r (row .0) own-row (omega arith));
         }
 
   -- The walk is at the pair j.
@@ -195,25 +190,25 @@ module _ {rows : List Holding} {held : ℕ} {pairs : List Pair} {paired : ℕ} {
     at-first = subst (λ (ls : List Leg). Going rows held pairs paired firsts seconds ls free) pair-legs g
 
     -- What the first leg finds: too little, or its lots.
-    module _ {side : Side} {s : Taken} (side-is : side ≡ firstSide (getD pairs j noPair .kind) (getD pairs j noPair .second)) (is : s ≡ takenLots (getD free (getD firsts j 0) noRow) side (getD pairs j noPair .r1 * getD pairs j noPair .units)) where
-      pub first-lacks : not (s .enough) ≡ true → Refused rows held pairs paired
+    module _ {side : Side} {n : ℕ} (side-is : side ≡ firstSide (getD pairs j noPair .kind) (getD pairs j noPair .second)) (has : n ≡ lotsOn side (getD free (getD firsts j 0) noRow)) where
+      pub first-lacks : n < getD pairs j noPair .r1 * getD pairs j noPair .units → Refused rows held pairs paired
       unfolding firstLeg
-      first-lacks e = leg-lacks at-first (g .ready .first-rows j lt) (rw side-is at is) e
+      first-lacks less = leg-lacks at-first (g .ready .first-rows j lt) (rw side-is at has) less
 
       -- and when it has its lots, what the second finds
-      module _ (has : not (s .enough) ≡ false) where
-        at-second : Going rows held pairs paired firsts seconds (secondLeg (getD pairs j noPair) ∷ legsOf (drop (j + 1) (take paired pairs))) (set free (getD firsts j 0) (s .row))
+      module _ {left : Holding} (enough : getD pairs j noPair .r1 * getD pairs j noPair .units ≤ n) (is : left ≡ lessened side (getD pairs j noPair .r1 * getD pairs j noPair .units) (getD free (getD firsts j 0) noRow)) where
+        at-second : Going rows held pairs paired firsts seconds (secondLeg (getD pairs j noPair) ∷ legsOf (drop (j + 1) (take paired pairs))) (set free (getD firsts j 0) left)
         unfolding firstLeg
-        at-second = leg-takes at-first (g .ready .first-rows j lt) (rw side-is at is) has
+        at-second = leg-takes at-first (g .ready .first-rows j lt) (rw side-is at has) enough (rw side-is at is)
 
-        module _ {side2 : Side} {t : Taken} (side2-is : side2 ≡ secondSide (getD pairs j noPair .kind)) (is2 : t ≡ takenLots (getD (set free (getD firsts j 0) (s .row)) (getD seconds j 0) noRow) side2 (getD pairs j noPair .r2 * getD pairs j noPair .units)) where
-          pub second-lacks : not (t .enough) ≡ true → Refused rows held pairs paired
+        module _ {side2 : Side} {m : ℕ} (side2-is : side2 ≡ secondSide (getD pairs j noPair .kind)) (has2 : m ≡ lotsOn side2 (getD (set free (getD firsts j 0) left) (getD seconds j 0) noRow)) where
+          pub second-lacks : m < getD pairs j noPair .r2 * getD pairs j noPair .units → Refused rows held pairs paired
           unfolding secondLeg
-          second-lacks e = leg-lacks at-second (g .ready .second-rows j lt) (rw side2-is at is2) e
+          second-lacks less = leg-lacks at-second (g .ready .second-rows j lt) (rw side2-is at has2) less
 
-          pub pair-takes : not (t .enough) ≡ false → Going rows held pairs paired firsts seconds (legsOf (drop (j + 1) (take paired pairs))) (set (set free (getD firsts j 0) (s .row)) (getD seconds j 0) (t .row))
+          pub pair-takes : {rest : Holding} → getD pairs j noPair .r2 * getD pairs j noPair .units ≤ m → rest ≡ lessened side2 (getD pairs j noPair .r2 * getD pairs j noPair .units) (getD (set free (getD firsts j 0) left) (getD seconds j 0) noRow) → Going rows held pairs paired firsts seconds (legsOf (drop (j + 1) (take paired pairs))) (set (set free (getD firsts j 0) left) (getD seconds j 0) rest)
           unfolding secondLeg
-          pair-takes e = leg-takes at-second (g .ready .second-rows j lt) (rw side2-is at is2) e
+          pair-takes le is2 = leg-takes at-second (g .ready .second-rows j lt) (rw side2-is at has2) le (rw side2-is at is2)
 
   -- Behind the last pair every leg has found its lots.
   pub going-ends : {j : ℕ} {free : List Holding} → Going rows held pairs paired firsts seconds (legsOf (drop j (take paired pairs))) free → paired ≤ j → record { sound = true; free = free } ≡ checkedAs (covered (take held rows) (take paired pairs)) (take held rows) (take paired pairs)

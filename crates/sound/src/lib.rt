@@ -1,5 +1,5 @@
 // Whether a book is sound, and its free lots: one walk over its rows, one over its pairs, whose legs find their rows by halving, and one in
-// which leg after leg takes its lots from its row.
+// which leg after leg takes its lots from its row. What the walks find is answered with them: the keys of the rows and the rows of the legs.
 ghost use mathlib.Core.Path.{_≡_};
 ghost use mathlib.Core.Bool.{true, false};
 ghost use mathlib.Core.List.{[], _∷_};
@@ -12,19 +12,28 @@ ghost use Rattle.dates.specs.Calendar.{isDay};
 ghost use Rattle.series.specs.Checks.{goodSeries};
 ghost use Rattle.rules.specs.Lots.{covered};
 ghost use Rattle.rules.specs.Rules.{accountFits, isIdentity, goodHolding, soundBook};
-ghost use Rattle.sound.specs.Checked.{notSound, checkedAs, checkedBook};
-ghost use Rattle.sound.specs.Walk.{goodLots, alike, standing, KeysAre, LegKey, LegRow, LegRows, PlacesAre, RoomIs, Walkable, takenLots};
+ghost use Rattle.sound.specs.Checked.{notSound, checkedAs, checkedBook, notWalked, walkedBook};
+ghost use Rattle.sound.specs.Walk.{goodLots, alike, standing, KeysAre, LegKey, LegRow, LegRows, PlacesAre, RoomIs, Walkable};
 use rows::Book;
 use rows::Holding;
 use rows::Pair;
 use series::Halves;
 use series::Series;
-use series::Side;
 
 // Whether a book is sound, and its holdings with their free lots for their totals; empty rows where it is not.
 pub struct Checked {
     pub sound: bool,
     pub free: [Holding; 128],
+}
+
+// The same with the keys of the holdings, half by half, and the rows of each pair's legs; zeros where it is not sound.
+pub struct Walked {
+    pub sound: bool,
+    pub free: [Holding; 128],
+    pub highs: [u64; 128],
+    pub lows: [u64; 128],
+    pub firsts: [usize; 128],
+    pub seconds: [usize; 128],
 }
 
 // Whether the rows are good and in order, and their keys, half by half.
@@ -46,12 +55,6 @@ struct Places {
     sound: bool,
     firsts: [usize; 128],
     seconds: [usize; 128],
-}
-
-// Whether a row has the lots of a leg, and what is left of it then.
-struct Taken {
-    enough: bool,
-    row: Holding,
 }
 
 fn wide8(x: u8) -> u64
@@ -285,15 +288,6 @@ fn places_of<'a>(
     }
 }
 
-fn take_lots(h: Holding, side: Side, lots: u32) -> Taken
-    ensures { λ r. ⌜ r ≡ takenLots h side lots ⌝ }
-{
-    Taken {
-        enough: lots <= rows::lots_on(side, h),
-        row: rows::lessen(side, lots, h),
-    }
-}
-
 // The answer for a book that breaks a rule.
 fn unsound() -> Checked
     ensures { λ r. ⌜ r ≡ notSound ⌝ }
@@ -324,19 +318,21 @@ fn free_lots(
         let b = p.second;
         let x = firsts[j];
         let h = free[x];
-        let s = take_lots(h, pairing::first_side(p.kind, b), p.r1 * p.units);
-        if !s.enough {
+        let s = pairing::first_side(p.kind, b);
+        let m = p.r1 * p.units;
+        if rows::lots_on(s, h) < m {
             return unsound();
         }
-        let less = s.row;
+        let less = rows::lessen(s, m, h);
         free[x] = less;
         let y = seconds[j];
         let k = free[y];
-        let t = take_lots(k, pairing::second_side(p.kind), p.r2 * p.units);
-        if !t.enough {
+        let t = pairing::second_side(p.kind);
+        let n = p.r2 * p.units;
+        if rows::lots_on(t, k) < n {
             return unsound();
         }
-        let rest = t.row;
+        let rest = rows::lessen(t, n, k);
         free[y] = rest;
         j += 1;
     }
@@ -369,37 +365,76 @@ fn room_sound(holdings: [Holding; 128], held: usize, pairs: [Pair; 128], paired:
     rules::pairs_end(pairs, paired)
 }
 
-// Whether a book keeps every rule, and its free lots.
-pub fn checked_book(b: Book) -> Checked
-    ensures { λ r. ⌜ r ≡ checkedBook b ⌝ }
+// The answer of the whole walk for a book that breaks a rule.
+fn not_walked() -> Walked
+    ensures { λ r. ⌜ r ≡ notWalked ⌝ }
+{
+    let h = rows::empty_holding();
+    Walked {
+        sound: false,
+        free: [h; 128],
+        highs: [0u64; 128],
+        lows: [0u64; 128],
+        firsts: [0usize; 128],
+        seconds: [0usize; 128],
+    }
+}
+
+// Whether a book keeps every rule, its free lots, its keys, and the rows of its pairs' legs.
+pub fn walked_book(b: Book) -> Walked
+    ensures { λ r. ⌜ r ≡ walkedBook b ⌝ }
 {
     let holdings = b.holdings;
     let pairs = b.pairs;
     if !head_sound(b.account, b.identity, b.day) {
-        return unsound();
+        return not_walked();
     }
     if !room_sound(holdings, b.held, pairs, b.paired) {
-        return unsound();
+        return not_walked();
     }
     let keys = keys_of(holdings, b.held);
     if !keys.sound {
-        return unsound();
+        return not_walked();
     }
     let highs = keys.highs;
     let lows = keys.lows;
     let places = places_of(&highs, &lows, b.held, pairs, b.paired);
     if !places.sound {
-        return unsound();
+        return not_walked();
     }
     let firsts = places.firsts;
     let seconds = places.seconds;
-    free_lots(holdings, b.held, pairs, b.paired, firsts, seconds)
+    let c = free_lots(holdings, b.held, pairs, b.paired, firsts, seconds);
+    if !c.sound {
+        return not_walked();
+    }
+    let free = c.free;
+    Walked {
+        sound: true,
+        free,
+        highs,
+        lows,
+        firsts,
+        seconds,
+    }
+}
+
+// Whether a book keeps every rule, and its free lots.
+pub fn checked_book(b: Book) -> Checked
+    ensures { λ r. ⌜ r ≡ checkedBook b ⌝ }
+{
+    let w = walked_book(b);
+    let free = w.free;
+    Checked {
+        sound: w.sound,
+        free,
+    }
 }
 
 // Whether a book keeps every rule.
 pub fn is_sound(b: Book) -> bool
     ensures { λ r. ⌜ r ≡ soundBook b ⌝ }
 {
-    let c = checked_book(b);
-    c.sound
+    let w = walked_book(b);
+    w.sound
 }

@@ -1,21 +1,13 @@
+use mathlib.Core.Path.{refl}
 use borrow.Author.Needs.{needs}
-use Rattle.reading.specs.Reading.{holdingIn}
+use Rattle.reading.specs.Facts.{holdingOf}
 use Rattle.reading.proofs.holding_of.Statement.{statement}
 use Rattle.reading.proofs.holding_of.Tie as tie
 
 returns : tie.Need-returns
-unfolding holdingIn
-returns c = rw (c .series-of .ensures)
+unfolding holdingOf
+returns c = refl
 
 pub holding-of-spec : {M : Type 1} → statement M
 holding-of-spec =
-    tie.close
-    (tie.spec
-    (λ c. search needs)
-    (λ c. search needs)
-    (λ c. search needs)
-    (λ c. search needs)
-    (λ c κs. search needs)
-    (λ c. search needs)
-    (λ c. search needs)
-    returns)
+    tie.close (tie.spec (λ c. search needs) (λ c. search needs) (λ c. search needs) returns)

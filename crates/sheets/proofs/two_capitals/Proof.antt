@@ -1,7 +1,7 @@
 use borrow.Author.Needs.{needs}
-use Rattle.checking.specs.Lines.{twoCapitals}
-use Rattle.checking.proofs.two_capitals.Statement.{statement}
-use Rattle.checking.proofs.two_capitals.Tie as tie
+use Rattle.sheets.specs.Rows.{twoCapitals}
+use Rattle.sheets.proofs.two_capitals.Statement.{statement}
+use Rattle.sheets.proofs.two_capitals.Tie as tie
 
 returns : tie.Need-returns
 unfolding twoCapitals
