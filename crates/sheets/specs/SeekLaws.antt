@@ -17,7 +17,7 @@ use Rattle.laws.specs.Order.{orderOf, byOrder, thenBy, bytesOrder}
 use Rattle.laws.specs.OrderLaws.{is-less, is-same, is-more, text-before, not-before-self, split-text}
 use Rattle.halving.specs.Halving.{keyAt, middle}
 use Rattle.series.specs.declared.Halves.{Halves}
-use Rattle.series.specs.Key.{halvesOf}
+use Rattle.series.specs.Key.{highKey, natureKey, halvesOf}
 use Rattle.sheets.specs.declared.Found.{Found}
 use Rattle.sheets.specs.declared.PriceRow.{PriceRow}
 use Rattle.sheets.specs.declared.Search.{Search}
