@@ -4,7 +4,7 @@ use mathlib.Core.Bool.{Bool, true}
 use mathlib.Core.List.{List, [], _∷_}
 use Prim.Native.Nat.{ℕ, _+_, _*_}
 use lib.Dec.{eqb}
-use Rattle.laws.specs.Truth.{pick, both}
+use Rattle.laws.specs.Truth.{pick}
 use Rattle.laws.specs.Search.{everyLine}
 use Rattle.laws.specs.Checks.{Check, _unless_, firstFailing}
 use Rattle.lists.specs.Sorted.{sumOf}

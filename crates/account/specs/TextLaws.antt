@@ -31,7 +31,7 @@ use Rattle.sheets.specs.declared.FutureRow.{FutureRow}
 use Rattle.sheets.specs.declared.OptionRow.{OptionRow}
 use Rattle.sheets.specs.declared.StockRow.{StockRow}
 use Rattle.sheets.specs.declared.PriceRow.{PriceRow}
-use Rattle.sheets.specs.Rows.{futureCodes, optionCodes, twoCapitals, found, nothing, noIndex, noStock, clearingIn, indexIn, stockIn, priceIn}
+use Rattle.sheets.specs.Rows.{futureCodes, optionCodes, twoCapitals, nothing, noIndex, noStock, clearingIn, indexIn, stockIn, priceIn}
 use Rattle.checking.specs.Lines.{among}
 use Rattle.checking.specs.Reading.{rowsOf, judged, readText}
 use Rattle.checking.specs.Next.{goodFuture, goodOption, goodStock, goodPrice}
@@ -193,23 +193,19 @@ module _ (t : List ℕ) where
   pub clearing-stands : (code : List ℕ) → onSheet (rowsView (rowsOf (judged t .lines))) (fLine code) ≡ stands (λ (r : FutureRow). r .code) code (rowsOf (judged t .lines) .futures)
   unfolding onSheet rowsView clearingIn goodFuture rowsOf
   clearing-stands code =
-      row-stands (λ (r : FutureRow). r .code) code (λ (r : FutureRow). sameBytes (r .code) code) goodFuture (λ (r : FutureRow). found (r .clearing)) nothing clearingStands
-      (λ r. refl) (λ r e. both-true (among futureCodes (r .code)) _ e .1) refl _ (futures-good (judged-good t))
+      row-stands _ code _ goodFuture _ nothing clearingStands (λ r. refl) (λ r e. both-true (among futureCodes (r .code)) _ e .1) refl _ (futures-good (judged-good t))
 
   pub index-stands : (code : List ℕ) → onSheet (rowsView (rowsOf (judged t .lines))) (oLine code) ≡ stands (λ (r : OptionRow). r .code) code (rowsOf (judged t .lines) .options)
   unfolding onSheet rowsView indexIn goodOption rowsOf noIndex indexFits
   index-stands code =
-      row-stands (λ (r : OptionRow). r .code) code (λ (r : OptionRow). sameBytes (r .code) code) goodOption (λ (r : OptionRow). r .line) noIndex indexFits
-      (λ r. refl) (λ r e. both-true (among optionCodes (r .code)) _ e .1) refl _ (options-good (judged-good t))
+      row-stands _ code _ goodOption _ noIndex indexFits (λ r. refl) (λ r e. both-true (among optionCodes (r .code)) _ e .1) refl _ (options-good (judged-good t))
 
   pub stock-stands : (code : List ℕ) → onSheet (rowsView (rowsOf (judged t .lines))) (sLine code) ≡ stands (λ (r : StockRow). r .code) code (rowsOf (judged t .lines) .stocks)
   unfolding onSheet rowsView stockIn goodStock rowsOf noStock stockFits
   stock-stands code =
-      row-stands (λ (r : StockRow). r .code) code (λ (r : StockRow). sameBytes (r .code) code) goodStock (λ (r : StockRow). r .line) noStock stockFits
-      (λ r. refl) (λ r e. both-true (twoCapitals (r .code)) _ e .1) refl _ (stocks-good (judged-good t))
+      row-stands _ code _ goodStock _ noStock stockFits (λ r. refl) (λ r e. both-true (twoCapitals (r .code)) _ e .1) refl _ (stocks-good (judged-good t))
 
   pub price-stands : (s : Series) → onSheet (rowsView (rowsOf (judged t .lines))) (qLine s) ≡ stands (λ (r : PriceRow). key (r .series) ∷ []) (key s ∷ []) (rowsOf (judged t .lines) .prices)
   unfolding onSheet rowsView priceIn goodPrice rowsOf sameBytes
   price-stands s =
-      row-stands (λ (r : PriceRow). key (r .series) ∷ []) (key s ∷ []) (λ (r : PriceRow). eqb (key (r .series)) (key s)) goodPrice (λ (r : PriceRow). found (r .price)) nothing priceStands
-      (λ r. sym (both-end _)) (λ r e. both-true (goodSeries (r .series)) _ e .1) refl _ (prices-good (judged-good t))
+      row-stands _ (key s ∷ []) _ goodPrice _ nothing priceStands (λ r. sym (both-end _)) (λ r e. both-true (goodSeries (r .series)) _ e .1) refl _ (prices-good (judged-good t))

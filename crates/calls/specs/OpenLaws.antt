@@ -46,16 +46,16 @@ module _ {b : Book} {s : Series} {d : Side} {n : ℕ} (o : Opens b s d n) where
   pub open-total : (t : Series) (e : Side) → total (holdingsOf (opened b s d n)) t e ≡ total (holdingsOf b) t e + ties t e (lotsOf s d n)
   unfolding opened
   open-total t e =
-      ap (λ (l : List Holding). total l t e) (new-holdings b (kept holdingRank noLots (added d n (heldOf (holdingsOf b) s)) (holdingsOf b)))
+      ap (λ (l : List Holding). total l t e) (new-holdings b _)
       ∙ opened-total (holdingsOf b) s d n (holdings-order (o .sound)) t e
 
   pub open-tied : (t : Series) (e : Side) → tied (pairsOf (opened b s d n)) t e ≡ tied (pairsOf b) t e
   unfolding opened
-  open-tied t e = ap (λ (l : List Pair). tied l t e) (same-pairs b (kept holdingRank noLots (added d n (heldOf (holdingsOf b) s)) (holdingsOf b)))
+  open-tied t e = ap (λ (l : List Pair). tied l t e) (same-pairs b _)
 
   pub open-units : (q : Pair) → unitsOf (pairsOf (opened b s d n)) q ≡ unitsOf (pairsOf b) q
   unfolding opened
-  open-units q = ap (λ (l : List Pair). unitsOf l q) (same-pairs b (kept holdingRank noLots (added d n (heldOf (holdingsOf b) s)) (holdingsOf b)))
+  open-units q = ap (λ (l : List Pair). unitsOf l q) (same-pairs b _)
 
   pub open-free : (t : Series) (e : Side) → free (opened b s d n) t e ≡ free b t e + ties t e (lotsOf s d n)
   unfolding free
@@ -88,12 +88,12 @@ module _ {b : Book} {s : Series} {d : Side} {n : ℕ} (o : Closes b s d n) where
   pub close-total : (t : Series) (e : Side) → total (holdingsOf (closed b s d n)) t e ≡ total (holdingsOf b) t e - ties t e (lotsOf s d n)
   unfolding closed
   close-total t e =
-      ap (λ (l : List Holding). total l t e) (new-holdings b (kept holdingRank noLots (lessened d n (heldOf (holdingsOf b) s)) (holdingsOf b)))
+      ap (λ (l : List Holding). total l t e) (new-holdings b _)
       ∙ closed-total (holdingsOf b) s d n (holdings-order (o .sound)) t e
 
   pub close-tied : (t : Series) (e : Side) → tied (pairsOf (closed b s d n)) t e ≡ tied (pairsOf b) t e
   unfolding closed
-  close-tied t e = ap (λ (l : List Pair). tied l t e) (same-pairs b (kept holdingRank noLots (lessened d n (heldOf (holdingsOf b) s)) (holdingsOf b)))
+  close-tied t e = ap (λ (l : List Pair). tied l t e) (same-pairs b _)
 
   -- the lots that leave were there, and free
   pub close-enough : (t : Series) (e : Side) → ties t e (lotsOf s d n) ≤ free b t e
@@ -113,7 +113,7 @@ module _ {b : Book} {s : Series} {d : Side} {n : ℕ} (o : Closes b s d n) where
 
   pub close-units : (q : Pair) → unitsOf (pairsOf (closed b s d n)) q ≡ unitsOf (pairsOf b) q
   unfolding closed
-  close-units q = ap (λ (l : List Pair). unitsOf l q) (same-pairs b (kept holdingRank noLots (lessened d n (heldOf (holdingsOf b) s)) (holdingsOf b)))
+  close-units q = ap (λ (l : List Pair). unitsOf l q) (same-pairs b _)
 
   pub close-free : (t : Series) (e : Side) → free (closed b s d n) t e ≡ free b t e - ties t e (lotsOf s d n)
   unfolding free

@@ -50,18 +50,18 @@ sound-pairs b ps s few g a never =
 module _ {b : Book} {p : Pair} (o : Pairs b p) where
   pub pair-total : (t : Series) (e : Side) → total (holdingsOf (joined b p)) t e ≡ total (holdingsOf b) t e
   unfolding joined
-  pair-total t e = ap (λ (l : List Holding). total l t e) (same-holdings b (kept pairRank noUnits (withUnits (unitsOf (pairsOf b) p + p .units) p) (pairsOf b)))
+  pair-total t e = ap (λ (l : List Holding). total l t e) (same-holdings b _)
 
   pub pair-tied : (t : Series) (e : Side) → tied (pairsOf (joined b p)) t e ≡ tied (pairsOf b) t e + tiedBy t e p
   unfolding joined
   pair-tied t e =
-      ap (λ (l : List Pair). tied l t e) (new-pairs b (kept pairRank noUnits (withUnits (unitsOf (pairsOf b) p + p .units) p) (pairsOf b)))
+      ap (λ (l : List Pair). tied l t e) (new-pairs b _)
       ∙ joined-tied (pairsOf b) p (pairs-order (o .sound)) (pairs-good (o .sound)) (o .first-good) (o .second-good) t e
 
   pub pair-units : (q : Pair) → unitsOf (pairsOf (joined b p)) q ≡ unitsOf (pairsOf b) q + pick (samePair p q) (p .units) 0
   unfolding joined
   pair-units q =
-      ap (λ (l : List Pair). unitsOf l q) (new-pairs b (kept pairRank noUnits (withUnits (unitsOf (pairsOf b) p + p .units) p) (pairsOf b)))
+      ap (λ (l : List Pair). unitsOf l q) (new-pairs b _)
       ∙ joined-units (pairsOf b) p (pairs-order (o .sound)) q
 
   -- what is tied was free
@@ -95,18 +95,18 @@ module _ {b : Book} {p : Pair} (o : Pairs b p) where
 module _ {b : Book} {p : Pair} (o : Splits b p) where
   pub split-total : (t : Series) (e : Side) → total (holdingsOf (parted b p)) t e ≡ total (holdingsOf b) t e
   unfolding parted
-  split-total t e = ap (λ (l : List Holding). total l t e) (same-holdings b (kept pairRank noUnits (withUnits (unitsOf (pairsOf b) p - p .units) p) (pairsOf b)))
+  split-total t e = ap (λ (l : List Holding). total l t e) (same-holdings b _)
 
   pub split-tied : (t : Series) (e : Side) → tied (pairsOf (parted b p)) t e + tiedBy t e p ≡ tied (pairsOf b) t e
   unfolding parted
   split-tied t e =
-      ap (λ (l : List Pair). tied l t e + tiedBy t e p) (new-pairs b (kept pairRank noUnits (withUnits (unitsOf (pairsOf b) p - p .units) p) (pairsOf b)))
+      ap (λ (l : List Pair). tied l t e + tiedBy t e p) (new-pairs b _)
       ∙ parted-tied (pairsOf b) p (pairs-order (o .sound)) (pairs-good (o .sound)) (o .first-good) (o .second-good) (o .enough) t e
 
   pub split-units : (q : Pair) → unitsOf (pairsOf (parted b p)) q ≡ unitsOf (pairsOf b) q - pick (samePair p q) (p .units) 0
   unfolding parted
   split-units q =
-      ap (λ (l : List Pair). unitsOf l q) (new-pairs b (kept pairRank noUnits (withUnits (unitsOf (pairsOf b) p - p .units) p) (pairsOf b)))
+      ap (λ (l : List Pair). unitsOf l q) (new-pairs b _)
       ∙ parted-units (pairsOf b) p (pairs-order (o .sound)) q
 
   -- the units that leave stood

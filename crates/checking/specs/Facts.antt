@@ -3,42 +3,26 @@
 use mathlib.Core.List.{List, [], _∷_, _++_}
 use Prim.Native.Nat.{ℕ}
 use lib.Dec.{eqb}
-use Rattle.laws.specs.Truth.{pick}
-use Rattle.laws.specs.Text.{byte}
 use Rattle.laws.specs.Checks.{firstFailing}
 use Rattle.laws.specs.Order.{isLess, bytesOrder}
 use Rattle.lines.specs.declared.Kind.{Kind}
 use Rattle.lines.specs.declared.Kind.the-variants.{Nothing}
 use Rattle.lines.specs.declared.Cell.{Cell}
-use Rattle.checking.specs.Lines.{headForm, futureForm, optionForm, stockForm, priceForm, said, rank, checksBy}
+use Rattle.checking.specs.Lines.{headForm, futureForm, optionForm, stockForm, priceForm, byLetter, said, rank, checksBy}
 
 -- the kinds of all forms, one form behind the other, with Nothing between and behind them; and where those of a letter begin
 unfoldable pub kindTable : List Kind
 kindTable = headForm ++ (Nothing ∷ (futureForm ++ (Nothing ∷ (optionForm ++ (Nothing ∷ (stockForm ++ (Nothing ∷ (priceForm ++ (Nothing ∷ [])))))))))
 
 unfoldable pub placeFor : ℕ → ℕ
-placeFor letter =
-    pick (eqb letter (byte "D")) 0
-    (pick (eqb letter (byte "F")) 2
-    (pick (eqb letter (byte "O")) 5
-    (pick (eqb letter (byte "S")) 18
-    (pick (eqb letter (byte "Q")) 28 33))))
+placeFor letter = byLetter letter 0 2 5 18 28 33
 
+-- how many fields its form has, more than there can be where it has none; and its group, or 0
 unfoldable pub fieldsFor : ℕ → ℕ
-fieldsFor letter =
-    pick (eqb letter (byte "D")) 1
-    (pick (eqb letter (byte "F")) 2
-    (pick (eqb letter (byte "O")) 12
-    (pick (eqb letter (byte "S")) 9
-    (pick (eqb letter (byte "Q")) 5 13))))
+fieldsFor letter = byLetter letter 1 2 12 9 5 13
 
 unfoldable pub groupFor : ℕ → ℕ
-groupFor letter =
-    pick (eqb letter (byte "D")) 1
-    (pick (eqb letter (byte "F")) 2
-    (pick (eqb letter (byte "O")) 3
-    (pick (eqb letter (byte "S")) 4
-    (pick (eqb letter (byte "Q")) 5 0))))
+groupFor letter = byLetter letter 1 2 3 4 5 0
 
 -- a line's number, where the line before it, if any, had the letter `last` and the cells `before`
 unfoldable pub numberFor : ℕ → List Cell → ℕ → List Cell → ℕ

@@ -93,6 +93,15 @@ stockFrom cs =
 unfoldable pub priceFrom : List Cell → PriceRow
 priceFrom cs = record { series = seriesOf (cell cs 0) (cell cs 1) (cell cs 2) (cell cs 3); price = figure cs 4 }
 
+-- what is said of each letter of a sheet, in the order of its groups, and of any other byte
+abbrev pub byLetter : {A : Type 0} → ℕ → A → A → A → A → A → A → A
+byLetter letter d f o s q other =
+    pick (eqb letter (byte "D")) d
+    (pick (eqb letter (byte "F")) f
+    (pick (eqb letter (byte "O")) o
+    (pick (eqb letter (byte "S")) s
+    (pick (eqb letter (byte "Q")) q other))))
+
 -- a line's letter, or 0 where it is none of the five; the form of the fields behind it; what they say
 unfoldable pub letterIn : List ℕ → ℕ
 letterIn f =
@@ -103,20 +112,17 @@ letterIn f =
     (pick (sameBytes f (bytes "Q")) (byte "Q") 0))))
 
 unfoldable pub formOf : ℕ → List Kind
-formOf letter =
-    pick (eqb letter (byte "D")) headForm
-    (pick (eqb letter (byte "F")) futureForm
-    (pick (eqb letter (byte "O")) optionForm
-    (pick (eqb letter (byte "S")) stockForm
-    (pick (eqb letter (byte "Q")) priceForm []))))
+formOf letter = byLetter letter headForm futureForm optionForm stockForm priceForm []
 
 unfoldable pub said : ℕ → List Cell → Line
 said letter cs =
-    pick (eqb letter (byte "D")) (head (figure cs 0))
-    (pick (eqb letter (byte "F")) (future (futureFrom cs))
-    (pick (eqb letter (byte "O")) (option (optionFrom cs))
-    (pick (eqb letter (byte "S")) (stock (stockFrom cs))
-    (pick (eqb letter (byte "Q")) (price (priceFrom cs)) formless))))
+    byLetter letter
+    (head (figure cs 0))
+    (future (futureFrom cs))
+    (option (optionFrom cs))
+    (stock (stockFrom cs))
+    (price (priceFrom cs))
+    formless
 
 unfoldable pub lineBy : ℕ → List (List ℕ) → Line
 lineBy letter fs = pick (hasForm (formOf letter) fs) (said letter (cellsOf (formOf letter) fs)) formless

@@ -16,7 +16,7 @@ use Rattle.lines.specs.declared.Cell.{Cell}
 use Rattle.lines.specs.Fields.{hasForm, cellsOf}
 use Rattle.lines.specs.CutLaws.{fieldsBehind}
 use Rattle.lines.specs.LoopLaws.{InFields, row-fields, row-wrong, row-done, in-table}
-use Rattle.checking.specs.Lines.{formless, headForm, futureForm, optionForm, stockForm, priceForm, cell, futureFrom, optionFrom, stockFrom, priceFrom, letterIn, formOf, said, lineBy, lineFrom, lineOf}
+use Rattle.checking.specs.Lines.{formless, headForm, futureForm, optionForm, stockForm, priceForm, cell, futureFrom, optionFrom, stockFrom, priceFrom, byLetter, letterIn, formOf, said, lineBy, lineFrom, lineOf}
 use Rattle.checking.specs.Facts.{kindTable, placeFor, fieldsFor}
 
 -- One of the five letters of a sheet.
@@ -27,17 +27,17 @@ pub data Letter (letter : ℕ) : Type 0 where
   is-S : letter ≡ 83 → Letter letter
   is-Q : letter ≡ 81 → Letter letter
 
+-- What is said of a byte that is none of them.
+no-letter : {A : Type 0} {letter : ℕ} (x y z u v : A) {other : A} → (letter ≡ 68 → ⊥) → (letter ≡ 70 → ⊥) → (letter ≡ 79 → ⊥) → (letter ≡ 83 → ⊥) → (letter ≡ 81 → ⊥) → byLetter letter x y z u v other ≡ other
+no-letter x y z u v d f o s q = rw (ne-eqb _ 68 d, ne-eqb _ 70 f, ne-eqb _ 79 o, ne-eqb _ 83 s, ne-eqb _ 81 q)
+
 -- A letter is one of them, or the form of its lines has no fields and it is told to have thirteen.
 module _ (letter : ℕ) (P : Type 0) (known : Letter letter → P) where
   pub known-or-not : (formOf letter ≡ [] → ((cs : List Cell) → said letter cs ≡ formless) → fieldsFor letter ≡ 13 → placeFor letter ≡ 33 → P) → P
   unfolding formOf said fieldsFor placeFor
   known-or-not other =
       test 68 (λ e. known (is-D e)) (λ d. test 70 (λ e. known (is-F e)) (λ f. test 79 (λ e. known (is-O e)) (λ o. test 83 (λ e. known (is-S e)) (λ s. test 81 (λ e. known (is-Q e)) (λ q.
-      other
-      (rw (ne-eqb letter 68 d, ne-eqb letter 70 f, ne-eqb letter 79 o, ne-eqb letter 83 s, ne-eqb letter 81 q))
-      (λ cs. rw (ne-eqb letter 68 d, ne-eqb letter 70 f, ne-eqb letter 79 o, ne-eqb letter 83 s, ne-eqb letter 81 q))
-      (rw (ne-eqb letter 68 d, ne-eqb letter 70 f, ne-eqb letter 79 o, ne-eqb letter 83 s, ne-eqb letter 81 q))
-      (rw (ne-eqb letter 68 d, ne-eqb letter 70 f, ne-eqb letter 79 o, ne-eqb letter 83 s, ne-eqb letter 81 q)))))))
+      other (no-letter _ _ _ _ _ d f o s q) (λ cs. no-letter _ _ _ _ _ d f o s q) (no-letter _ _ _ _ _ d f o s q) (no-letter _ _ _ _ _ d f o s q))))))
     where
       test : (c : ℕ) → (letter ≡ c → P) → ((letter ≡ c → ⊥) → P) → P
       test c is differs = by-test (λ (t : Bool). eqb letter c ≡ t → P) (eqb letter c) (λ q e. is (eqb-true letter c e)) (λ q e. differs (eqb-false letter c e)) refl

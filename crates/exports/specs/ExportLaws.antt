@@ -31,7 +31,7 @@ use Rattle.account.specs.declared.Margin.{Margin}
 use Rattle.account.specs.Margin.{marginOn, marginText}
 use Rattle.statement.specs.declared.Statement.{Statement}
 use Rattle.statement.specs.Statement.{statementText, statementOf}
-use Rattle.statement.specs.StatementLaws.{line-is}
+use Rattle.statement.specs.StatementLaws.{statement-fits, line-is}
 use Rattle.exports.specs.Exports.{coded, readCoded, printCoded, printedOf, printedExit}
 use Rattle.exports.specs.Script.{codeSaid, natureSaid, seriesSaid, sideSaid, pairSaid, callSaid, bookAfter, numbersAfter, callsIn}
 
@@ -111,7 +111,7 @@ unfolding marginText
 margin-is b text read is = rw read at is
 
 pub line-laid : (book sheet out : List ℕ) (s : Statement) {e : List ℕ} {r : ℕ} → s ≡ statementOf (statementText book sheet) → (r ≡ endOf out 0 (take (s .length) (s .text))) × (e ≡ laid out 0 (take (s .length) (s .text))) → (r ≡ endOf out 0 (statementText book sheet)) × (e ≡ laid out 0 (statementText book sheet))
-line-laid book sheet out s is put = rw (line-is book sheet s is) at put
+line-laid book sheet out s is put = rw (line-is _ (statement-fits book sheet) s is) at put
 
 -- What was read of the words of a series, and of a pair.
 module _ (words : List ℕ) (at : ℕ) where

@@ -11,7 +11,7 @@ use Rattle.rows.specs.Rows.{sameSeries, samePair}
 use Rattle.rules.specs.Lots.{sameSide}
 use Rattle.history.specs.History.{Call, openLots, closeLots, pairUnits, splitUnits, turnDay}
 
--- n where the series and sides are the same
+-- n where series and side are the same, else 0
 abbrev pub onSide : Series → Side → Series → Side → ℕ → ℕ
 onSide s d t e n = pick (both (sameSeries t s) (sameSide e d)) n 0
 

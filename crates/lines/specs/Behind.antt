@@ -37,6 +37,6 @@ chainBehind (k ∷ ks) t at =
 unfoldable pub seriesForm : List Kind
 seriesForm = Code ∷ Date ∷ Mark ∷ Number ∷ []
 
--- what the cells of such a run write
+-- the series that the cells of such a chain write
 unfoldable pub writtenIn : Chain → Written
 writtenIn r = record { right = r .right; series = seriesOf (getD (r .cells) 0 noCell) (getD (r .cells) 1 noCell) (getD (r .cells) 2 noCell) (getD (r .cells) 3 noCell); stop = r .stop }

@@ -1,9 +1,9 @@
 -- Laws of fields read one behind the other: the line has the form if they all do and an LF stands behind them, and only then.
 use mathlib.Core.Path.{_≡_, refl, ap, sym, _∙_}
-use mathlib.Core.Logic.{_⊎_, inl, inr, ⊎-elim}
+use mathlib.Core.Logic.{_⊎_, inr}
 use mathlib.Core.Bool.{Bool, true, false, not}
 use mathlib.Core.List.{List, [], _∷_, _++_, append-nil}
-use Prim.Native.Nat.{ℕ, zero, suc, _+_, _-_, _<_, _≤_}
+use Prim.Native.Nat.{ℕ, _+_, _-_, _<_, _≤_}
 use native.Mathlib.Omega.{arith}
 use native.Mathlib.Decide.{decLt}
 use native.Mathlib.Numerals.{add-one}
@@ -17,7 +17,6 @@ use Rattle.lines.specs.declared.Kind.{Kind}
 use Rattle.lines.specs.declared.Kind.the-variants.{Nothing, Number, Date, Code, Mark}
 use Rattle.lines.specs.declared.Cell.{Cell}
 use Rattle.lines.specs.declared.Field.{Field}
-use Rattle.lines.specs.declared.Written.{Written}
 use Rattle.lines.specs.Parts.{tab, lf, nextOf, stops, stopOf}
 use Rattle.lines.specs.Fields.{cellOf, hasForm, cellsOf, fieldText, noField, fieldAt, fieldWith, seriesOf}
 use Rattle.lines.specs.Behind.{fieldBehind, Chain, chainBehind, seriesForm, writtenIn}

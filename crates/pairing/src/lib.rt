@@ -2,7 +2,7 @@
 ghost use mathlib.Core.Path.{_≡_};
 ghost use Rattle.pairing.specs.Rules.{rule, futureWithOption, betweenProducts, noRule, partsOf, pairChecks, pairNumber, mayStand};
 ghost use Rattle.pairing.specs.Sides.{firstSide, secondSide};
-ghost use Rattle.legs.specs.Legs.{sameCode, oneToOne};
+ghost use Rattle.legs.specs.Legs.{sameCode, sameNature, oneToOne};
 ghost use Rattle.laws.specs.Checks.{firstFailing};
 use series::Series;
 use series::Side;
@@ -78,6 +78,13 @@ fn one_code(
     )
 }
 
+// A kind that asks for one nature too.
+fn one_nature(a: Series, b: Series, dates: bool, strikes: bool, r1: u32, r2: u32) -> Parts
+    ensures { λ r. ⌜ r ≡ rule (sameCode a b) (sameNature a b) dates strikes (oneToOne r1 r2) ⌝ }
+{
+    one_code(a, b, legs::same_natures(a, b), dates, strikes, r1, r2)
+}
+
 // Kind 8: futures of two products.
 fn two_products(a: Series, b: Series, r1: u32, r2: u32) -> Parts
     ensures { λ r. ⌜ r ≡ betweenProducts a b r1 r2 ⌝ }
@@ -92,33 +99,9 @@ pub fn parts_of(kind: u32, a: Series, b: Series, r1: u32, r2: u32) -> Parts
     ensures { λ r. ⌜ r ≡ partsOf kind a b r1 r2 ⌝ }
 {
     match kind {
-        1 => one_code(
-            a,
-            b,
-            legs::same_natures(a, b),
-            a.date == b.date,
-            legs::debit_strikes(a, b),
-            r1,
-            r2,
-        ),
-        2 => one_code(
-            a,
-            b,
-            legs::same_natures(a, b),
-            a.date == b.date,
-            legs::debit_strikes(b, a),
-            r1,
-            r2,
-        ),
-        3 => one_code(
-            a,
-            b,
-            legs::same_natures(a, b),
-            b.date < a.date,
-            true,
-            r1,
-            r2,
-        ),
+        1 => one_nature(a, b, a.date == b.date, legs::debit_strikes(a, b), r1, r2),
+        2 => one_nature(a, b, a.date == b.date, legs::debit_strikes(b, a), r1, r2),
+        3 => one_nature(a, b, b.date < a.date, true, r1, r2),
         4 => one_code(a, b, legs::call_then_put(a, b), true, true, r1, r2),
         5 => future_with_option(a, b, r1, r2),
         6 => one_code(a, b, legs::one_call_one_put(a, b), true, true, r1, r2),

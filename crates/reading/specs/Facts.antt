@@ -35,30 +35,36 @@ use Rattle.reading.specs.declared.Part.the-variants.{Nothing, Number, Ac
 use Rattle.reading.specs.declared.Item.{Item}
 use Rattle.reading.specs.Reading.{headForm, holdingForm, pairForm}
 
+-- what is said of each letter of a book's text, in the order of its lines, and of any other byte
+abbrev pub byLetter : {A : Type 0} → ℕ → A → A → A → A → A
+byLetter letter a h m other = pick (eqb letter (byte "A")) a (pick (eqb letter (byte "H")) h (pick (eqb letter (byte "M")) m other))
+
 -- a line's letter, or 0, and the form of the fields behind it
 unfoldable pub letterIn : List ℕ → ℕ
 letterIn f = pick (sameBytes f (bytes "A")) (byte "A") (pick (sameBytes f (bytes "H")) (byte "H") (pick (sameBytes f (bytes "M")) (byte "M") 0))
 
 unfoldable pub formFor : ℕ → List Kind
-formFor letter = pick (eqb letter (byte "A")) headForm (pick (eqb letter (byte "H")) holdingForm (pick (eqb letter (byte "M")) pairForm []))
+formFor letter = byLetter letter headForm holdingForm pairForm []
 
 -- The form of a letter's line as the paper writes it: SERIES is one part, of four fields.
 
 unfoldable pub partsFor : ℕ → List Part
 partsFor letter =
-    pick (eqb letter (byte "A")) (Account ∷ Mark ∷ Date ∷ [])
-    (pick (eqb letter (byte "H")) (Series ∷ Number ∷ Number ∷ [])
-    (pick (eqb letter (byte "M")) (Number ∷ Series ∷ Series ∷ Number ∷ Number ∷ Number ∷ []) []))
+    byLetter letter
+    (Account ∷ Mark ∷ Date ∷ [])
+    (Series ∷ Number ∷ Number ∷ [])
+    (Number ∷ Series ∷ Series ∷ Number ∷ Number ∷ Number ∷ [])
+    []
 
 -- the parts of all forms, one form behind the other, with Nothing between and behind them; where those of a letter begin, and how many they are
 unfoldable pub partTable : List Part
 partTable = partsFor (byte "A") ++ (Nothing ∷ (partsFor (byte "H") ++ (Nothing ∷ (partsFor (byte "M") ++ (Nothing ∷ [])))))
 
 unfoldable pub placeFor : ℕ → ℕ
-placeFor letter = pick (eqb letter (byte "A")) 0 (pick (eqb letter (byte "H")) 4 (pick (eqb letter (byte "M")) 8 14))
+placeFor letter = byLetter letter 0 4 8 14
 
 unfoldable pub partsCount : ℕ → ℕ
-partsCount letter = pick (eqb letter (byte "A")) 3 (pick (eqb letter (byte "H")) 3 (pick (eqb letter (byte "M")) 6 7))
+partsCount letter = byLetter letter 3 3 6 7
 
 -- What a part writes: a number or a series.
 

@@ -2,22 +2,20 @@
 use mathlib.Core.Path.{_≡_, refl, ap, sym, _∙_}
 use mathlib.Core.Bool.{Bool, true, false, not}
 use mathlib.Core.List.{List, [], _∷_, _++_, append-nil}
-use Prim.Native.Nat.{ℕ, zero, suc, _+_, _-_, _<_, _≤_}
+use Prim.Native.Nat.{ℕ, suc, _+_, _-_, _<_, _≤_}
 use native.Mathlib.Omega.{arith}
 use native.Mathlib.Decide.{decLt}
 use native.Mathlib.Numerals.{add-one}
 use borrow.Author.Tests.{ne-eqb, not-true, not-false}
-use lib.Dec.{eqb}
 use lib.ListN.{getD, length, take, drop, set, length-set, drop-of-length-le, List·getD-eq-default}
 use lib.Seq.{append-snoc, drop-cons, take-suc-set, take-all, getD-take}
-use Rattle.laws.specs.Truth.{pick, both}
-use Rattle.laws.specs.TruthLaws.{clash, both-true, by-test}
-use Rattle.lines.specs.declared.Kind.{Kind}
+use Rattle.laws.specs.Truth.{both}
+use Rattle.laws.specs.TruthLaws.{clash, both-true}
 use Rattle.lines.specs.Parts.{tab, lf, stops, stopOf}
 use Rattle.lines.specs.Fields.{cellOf}
 use Rattle.lines.specs.StopLaws.{stop-byte, stops-lf}
 use Rattle.lines.specs.LoopLaws.{in-table}
-use Rattle.lines.specs.Behind.{fieldBehind, chainBehind, seriesForm, writtenIn}
+use Rattle.lines.specs.Behind.{chainBehind, seriesForm, writtenIn}
 use Rattle.lines.specs.BehindLaws.{behind-on, behind-off}
 use Rattle.rows.specs.declared.Holding.{Holding}
 use Rattle.rows.specs.declared.Pair.{Pair}

@@ -7,7 +7,7 @@ use Prim.Native.Nat.{ℕ, suc, _+_, _-_, _*_, _%_, _<_, _≤_}
 use native.Mathlib.Omega.{arith}
 use borrow.Author.Tests.{lt-leb, le-leb, eq-eqb, ne-eqb, eqb-true, eqb-false, ltb-true, ltb-false, not-true, not-false}
 use lib.Dec.{ltb, eqb}
-use lib.ListN.{getD, length, take, drop, set, drop-of-length-le, length-drop}
+use lib.ListN.{getD, length, drop, set, drop-of-length-le, length-drop}
 use Rattle.laws.specs.Truth.{pick, both}
 use Rattle.laws.specs.TruthLaws.{by-test, both-true, false-unless}
 use Rattle.laws.specs.Checks.{firstFailing, allPass, orElse}

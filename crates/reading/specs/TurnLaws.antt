@@ -23,12 +23,12 @@ use Rattle.lines.specs.Behind.{chainBehind}
 use Rattle.lines.specs.BehindLaws.{Unformed, chain-done, chain-wrong, chain-ends, chain-over}
 use Rattle.reading.specs.declared.Item.{Item}
 use Rattle.reading.specs.Reading.{Line, holding, pair, formless, headForm, holdingForm, pairForm, headIn, holdingIn, pairIn, lineIn, lineFrom, lineOf}
-use Rattle.reading.specs.Facts.{letterIn, formFor, partsFor, itemsBehind, holdingOf, pairOf}
+use Rattle.reading.specs.Facts.{byLetter, letterIn, formFor, partsFor, itemsBehind, holdingOf, pairOf}
 use Rattle.reading.specs.LineLaws.{Read, byCells, byItems, headOf, head-read, holding-read, pair-read}
 
 -- What a line of a letter says by its cells, if it has the form.
 unfoldable pub saidBy : ℕ → List Cell → Line
-saidBy letter cs = pick (eqb letter (byte "A")) (headIn cs) (pick (eqb letter (byte "H")) (holding (holdingIn cs)) (pick (eqb letter (byte "M")) (pair (pairIn cs)) formless))
+saidBy letter cs = byLetter letter (headIn cs) (holding (holdingIn cs)) (pair (pairIn cs)) formless
 
 by-letter : (f : List ℕ) (fs : List (List ℕ)) → lineIn f fs ≡ pick (hasForm (formFor (letterIn f)) fs) (saidBy (letterIn f) (cellsOf (formFor (letterIn f)) fs)) formless
 unfolding lineIn letterIn formFor saidBy sameBytes

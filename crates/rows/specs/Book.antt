@@ -45,7 +45,7 @@ withDay b day = record { account = b .account; identity = b .identity; day = day
 unfoldable pub emptyBook : ℕ → ℕ → ℕ → Book
 emptyBook account identity day = bookOf account identity day [] []
 
--- "the empty book of account 0, code 0, day 20000101", which a refused make gives
+-- "A refused make or read gives the empty book of account 0, code 0, day 20000101"
 unfoldable pub noBook : Book
 noBook = emptyBook 0 (byte "0") 20000101
 

@@ -11,11 +11,11 @@ use Rattle.series.specs.declared.Nature.the-variants.{Future, Call, Put}
 use Rattle.codes.specs.declared.Class.{Class}
 use Rattle.codes.specs.Codes.{productOf, known, isFutureClass, isOptionClass}
 
--- an option's strike in thousandths of a point
+-- "Prices and strikes are whole thousandths of a point, 0 to 100,000,000; an option's strike is at least 1"
 abbrev pub strikeFits : ℕ → Bool
 strikeFits strike = within 1 100000000 strike
 
--- the nature suits the code, and an option's strike is in its range
+-- "The nature must suit the code", and an option's strike its range
 abbrev pub suits : Class → Nature → Bool
 suits class Future = isFutureClass class
 suits class (Call strike) = both (isOptionClass class) (strikeFits strike)

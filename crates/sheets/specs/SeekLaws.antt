@@ -1,6 +1,6 @@
 -- Laws of a search among Q rows: its loop, and that among rows that rise it finds the row with the key.
 use mathlib.Core.Path.{_≡_, refl, ap, sym, _∙_, subst}
-use mathlib.Core.Bool.{Bool, true, false}
+use mathlib.Core.Bool.{Bool}
 use mathlib.Core.List.{List, [], _∷_}
 use Prim.Native.Nat.{ℕ, zero, suc, _+_, _-_, _<_, _≤_, min}
 use native.Mathlib.Omega.{arith}
@@ -17,7 +17,7 @@ use Rattle.laws.specs.Order.{orderOf, byOrder, thenBy, bytesOrder}
 use Rattle.laws.specs.OrderLaws.{is-less, is-same, is-more, text-before, not-before-self, split-text}
 use Rattle.halving.specs.Halving.{keyAt, middle}
 use Rattle.series.specs.declared.Halves.{Halves}
-use Rattle.series.specs.Key.{highKey, natureKey, halvesOf}
+use Rattle.series.specs.Key.{halvesOf}
 use Rattle.sheets.specs.declared.Found.{Found}
 use Rattle.sheets.specs.declared.PriceRow.{PriceRow}
 use Rattle.sheets.specs.declared.Search.{Search}

@@ -28,7 +28,7 @@ use Rattle.statement.specs.Statement.{resultText, refusalText, marginLin
 
 -- How long the lines can be: no number is printed with more than twenty digits.
 
-numerals-most : (n : ℕ) → length (numerals n) ≤ 20
+pub numerals-most : (n : ℕ) → length (numerals n) ≤ 20
 unfolding numerals
 numerals-most n = rw (length-fixed (widthOf n) n) (width-few n)
 
@@ -86,18 +86,15 @@ stated p h put =
     let k : length p ≡ endOf (replicate 96 0) 0 p = omega arith in
     rw (put .ends, put .holds, laid-full 96 p h, ← k)
 
--- What is answered of two texts: its length is in its room, and the bytes before that are the line.
-module _ (book sheet : List ℕ) (s : Statement) (is : s ≡ statementOf (statementText book sheet)) where
+-- A line in its room: its length is in the room, and the bytes before that are the line.
+module _ (p : List ℕ) (fits : length p ≤ 96) (s : Statement) (is : s ≡ statementOf p) where
   pub line-inside : s .length ≤ length (s .text)
   unfolding statementOf
-  line-inside =
-      let h = statement-fits book sheet in
-      let k = length-full 96 0 (statementText book sheet) h in
-      rw is (omega arith)
+  line-inside = let k = length-full 96 0 p fits in rw is (omega arith)
 
-  pub line-is : take (s .length) (s .text) ≡ statementText book sheet
+  pub line-is : take (s .length) (s .text) ≡ p
   unfolding statementOf
-  line-is = rw is (take-full 96 0 (statementText book sheet))
+  line-is = rw is (take-full 96 0 p)
 
   pub line-counts : s .length ≡ length (take (s .length) (s .text))
   line-counts = sym (length-take-le (s .length) (s .text) line-inside)

@@ -16,14 +16,14 @@ pub struct Statement {
 }
 
 // Fields, each behind a tab: a number, and so many digits of one.
-fn put_figure(dst: &mut [u8], at: usize, n: u64) -> usize
+pub fn put_figure(dst: &mut [u8], at: usize, n: u64) -> usize
     ensures { λ r. ⌜ (r ≡ endOf (now (dst .entry)) at (tabbed (numerals n ∷ []))) × (now (dst .exit) ≡ laid (now (dst .entry)) at (tabbed (numerals n ∷ []))) ⌝ }
 {
     let a = put::put_byte(dst, at, b'\t');
     put::put_number(dst, a, n)
 }
 
-fn put_digits(dst: &mut [u8], at: usize, width: u8, n: u32) -> usize
+pub fn put_digits(dst: &mut [u8], at: usize, width: u8, n: u32) -> usize
     ensures { λ r. ⌜ (r ≡ endOf (now (dst .entry)) at (tabbed (fixed width n ∷ []))) × (now (dst .exit) ≡ laid (now (dst .entry)) at (tabbed (fixed width n ∷ []))) ⌝ }
 {
     let a = put::put_byte(dst, at, b'\t');
@@ -43,7 +43,7 @@ fn put_result(dst: &mut [u8], at: usize, account: u32, day: u32, l: Levels) -> u
     put::put_byte(dst, f, b'\n')
 }
 
-fn put_refusal(dst: &mut [u8], at: usize, number: u8, line: u32) -> usize
+pub fn put_refusal(dst: &mut [u8], at: usize, number: u8, line: u32) -> usize
     ensures { λ r. ⌜ (r ≡ endOf (now (dst .entry)) at (refusalText number line)) × (now (dst .exit) ≡ laid (now (dst .entry)) at (refusalText number line)) ⌝ }
 {
     let a = put::put_byte(dst, at, b'X');

@@ -1,4 +1,3 @@
-use native.Mathlib.Omega.{arith}
 use borrow.Author.Needs.{needs}
 use Rattle.codes.specs.CodeLaws.{markOf}
 use Rattle.codes.proofs.mark_of.Statement.{statement}

@@ -4,7 +4,7 @@ use native.Mathlib.Omega.{arith}
 use borrow.Author.Needs.{needs}
 use Rattle.account.specs.Margin.{marginOn}
 use Rattle.statement.specs.Statement.{statementText, statementOf}
-use Rattle.statement.specs.StatementLaws.{line-inside, line-counts, book-refused, book-stated}
+use Rattle.statement.specs.StatementLaws.{statement-fits, line-inside, line-counts, book-refused, book-stated}
 use Rattle.exports.specs.ExportLaws.{margin-is, line-laid}
 use Rattle.exports.proofs.sillauger_margin.Statement.{statement}
 use Rattle.exports.proofs.sillauger_margin.Tie as tie
@@ -23,10 +23,10 @@ stated : (c : tie.After-line-of Inv-loop μ-loop) → c .line-of .result ≡ sta
 stated c = c .line-of .ensures ∙ book-stated _ _ _ (c .before .before .before .before .before .before .before .before .read .ensures) _ (margin-is _ _ (c .before .before .before .before .read2 .ensures) (c .before .before .loop .inv)) (c .before .before .before .before .before .before .if1 .left)
 
 array-share-prefix-text : tie.Need-array-share-prefix-text Inv-loop μ-loop
-array-share-prefix-text c = line-inside _ _ _ (refused (c .before .before))
+array-share-prefix-text c = line-inside _ (statement-fits _ _) _ (refused (c .before .before))
 
 slice-aggregate-put-bytes : tie.Need-slice-aggregate-put-bytes Inv-loop μ-loop
-slice-aggregate-put-bytes c = line-counts _ _ _ (refused (c .before .before .before))
+slice-aggregate-put-bytes c = line-counts _ (statement-fits _ _) _ (refused (c .before .before .before))
 
 returns : tie.Need-returns Inv-loop μ-loop
 returns c = line-laid _ _ _ _ (refused (c .before .before .before .before .before .before)) (c .before .before .put-bytes .ensures)
@@ -41,10 +41,10 @@ loop-again : tie.Need-loop-again Inv-loop μ-loop
 loop-again c = c .margin-on2 .ensures
 
 array-share-prefix-line : tie.Need-array-share-prefix-line Inv-loop μ-loop
-array-share-prefix-line c = line-inside _ _ _ (stated (c .before .before))
+array-share-prefix-line c = line-inside _ (statement-fits _ _) _ (stated (c .before .before))
 
 slice-aggregate-put-bytes-2 : tie.Need-slice-aggregate-put-bytes-2 Inv-loop μ-loop
-slice-aggregate-put-bytes-2 c = line-counts _ _ _ (stated (c .before .before .before))
+slice-aggregate-put-bytes-2 c = line-counts _ (statement-fits _ _) _ (stated (c .before .before .before))
 
 returns-2 : tie.Need-returns-2 Inv-loop μ-loop
 returns-2 c = line-laid _ _ _ _ (stated (c .before .before .before .before .before .before)) (c .before .before .put-bytes2 .ensures)

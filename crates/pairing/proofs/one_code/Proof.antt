@@ -1,5 +1,3 @@
-use Rattle.pairing.specs.Rules.{rule}
-use native.Mathlib.Omega.{arith}
 use borrow.Author.Needs.{needs}
 use Rattle.pairing.proofs.one_code.Statement.{statement}
 use Rattle.pairing.proofs.one_code.Tie as tie

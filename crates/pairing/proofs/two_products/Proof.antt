@@ -1,5 +1,4 @@
 use Rattle.pairing.specs.Rules.{betweenProducts}
-use native.Mathlib.Omega.{arith}
 use borrow.Author.Needs.{needs}
 use Rattle.pairing.proofs.two_products.Statement.{statement}
 use Rattle.pairing.proofs.two_products.Tie as tie

@@ -1,7 +1,5 @@
-use mathlib.Core.Path.{refl, sym, _∙_, ap}
-use Rattle.laws.specs.Order.{thenBy}
-use Rattle.rows.specs.RowLaws.{restOrder, kinds-differ, firsts-decide}
-use native.Mathlib.Omega.{arith}
+use mathlib.Core.Path.{refl, sym, _∙_}
+use Rattle.rows.specs.RowLaws.{kinds-differ, firsts-decide}
 use borrow.Author.Needs.{needs}
 use Rattle.rows.proofs.compare_pairs.Statement.{statement}
 use Rattle.rows.proofs.compare_pairs.Tie as tie

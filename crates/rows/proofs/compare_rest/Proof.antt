@@ -1,5 +1,4 @@
 use Rattle.rows.specs.RowLaws.{restOrder}
-use native.Mathlib.Omega.{arith}
 use borrow.Author.Needs.{needs}
 use Rattle.rows.proofs.compare_rest.Statement.{statement}
 use Rattle.rows.proofs.compare_rest.Tie as tie

@@ -1,7 +1,4 @@
 use Rattle.sound.specs.KeyedLaws.{alike-row}
-use Rattle.laws.specs.Truth.{both}
-use mathlib.Core.Path.{_∙_}
-use native.Mathlib.Omega.{arith}
 use borrow.Author.Needs.{needs}
 use Rattle.sound.proofs.good_row.Statement.{statement}
 use Rattle.sound.proofs.good_row.Tie as tie

@@ -1,5 +1,4 @@
 use Rattle.sound.specs.Walk.{alike}
-use native.Mathlib.Omega.{arith}
 use borrow.Author.Needs.{needs}
 use Rattle.sound.proofs.is_alike.Statement.{statement}
 use Rattle.sound.proofs.is_alike.Tie as tie

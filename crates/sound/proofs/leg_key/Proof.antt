@@ -1,9 +1,4 @@
 use Rattle.sound.specs.LegLaws.{key-made}
-use Rattle.series.specs.Key.{highKey, codeKey, natureKey}
-use Rattle.series.specs.Natures.{letterOf, strikeOf}
-use Rattle.laws.specs.Order.{join}
-use Prim.Native.Nat.{_+_, _*_}
-use mathlib.Core.Path.{_≡_}
 use native.Mathlib.Omega.{arith}
 use borrow.Author.Needs.{needs}
 use Rattle.sound.proofs.leg_key.Statement.{statement}

@@ -1,5 +1,4 @@
 use Rattle.sound.specs.LegLaws.{not-standing, both-sought}
-use native.Mathlib.Omega.{arith}
 use borrow.Author.Needs.{needs}
 use Rattle.sound.proofs.legs_of.Statement.{statement}
 use Rattle.sound.proofs.legs_of.Tie as tie

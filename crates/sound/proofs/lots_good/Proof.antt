@@ -1,5 +1,4 @@
 use Rattle.sound.specs.Walk.{goodLots}
-use native.Mathlib.Omega.{arith}
 use borrow.Author.Needs.{needs}
 use Rattle.sound.proofs.lots_good.Statement.{statement}
 use Rattle.sound.proofs.lots_good.Tie as tie

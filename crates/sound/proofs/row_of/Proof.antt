@@ -1,7 +1,4 @@
 use Rattle.sound.specs.LegLaws.{row-sought}
-use Rattle.sound.specs.Walk.{rowOf}
-use mathlib.Core.Path.{_≡_, _∙_, ap}
-use native.Mathlib.Omega.{arith}
 use borrow.Author.Needs.{needs}
 use Rattle.sound.proofs.row_of.Statement.{statement}
 use Rattle.sound.proofs.row_of.Tie as tie

@@ -1,6 +1,5 @@
 use Rattle.sound.specs.Walk.{standing}
 use Rattle.laws.specs.TruthLaws.{failed, passed}
-use native.Mathlib.Omega.{arith}
 use borrow.Author.Needs.{needs}
 use Rattle.sound.proofs.stands.Statement.{statement}
 use Rattle.sound.proofs.stands.Tie as tie

@@ -1,0 +1,9 @@
+pub mod Lines
+pub mod Work
+pub mod Run
+pub mod Facts
+pub mod LineLaws
+pub mod FieldLaws
+pub mod WorkLaws
+pub mod RunLaws
+pub mod BoundLaws
