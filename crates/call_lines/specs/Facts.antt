@@ -14,7 +14,7 @@ use Rattle.lines.specs.Parts.{lf, nextOf}
 use Rattle.lines.specs.Fields.{seriesOf}
 use Rattle.lines.specs.Behind.{chainBehind}
 use Rattle.lines.specs.StopLaws.{lineAt}
-use Rattle.reading.specs.Reading.{cell, headForm, pairForm, pairIn}
+use Rattle.reading.specs.Reading.{cell, headForm, pairForm, pairFrom}
 use Rattle.call_lines.specs.declared.Name.{Name}
 use Rattle.call_lines.specs.declared.MakeLine.{MakeLine}
 use Rattle.call_lines.specs.declared.LotsLine.{LotsLine}
@@ -57,7 +57,7 @@ unfoldable pub lotsBehind : List ℕ → ℕ → LotsLine
 lotsBehind t at = lotsSaid (formed lotsForm t at) (cellsBehind lotsForm t at)
 
 unfoldable pub unitsBehind : List ℕ → ℕ → UnitsLine
-unitsBehind t at = record { right = formed pairForm t at; pair = pairIn (cellsBehind pairForm t at) }
+unitsBehind t at = record { right = formed pairForm t at; pair = pairFrom (cellsBehind pairForm t at) }
 
 unfoldable pub dayBehind : List ℕ → ℕ → DayLine
 dayBehind t at = record { right = formed dayForm t at; day = figure (cellsBehind dayForm t at) 0 }

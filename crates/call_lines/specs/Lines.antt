@@ -15,7 +15,7 @@ use Rattle.lines.specs.declared.Kind.the-variants.{Number, Date, Code, Mark}
 use Rattle.lines.specs.declared.Cell.{Cell}
 use Rattle.lines.specs.Parts.{fieldsOf}
 use Rattle.lines.specs.Fields.{hasForm, cellsOf, seriesOf}
-use Rattle.reading.specs.Reading.{cell, headForm, pairForm, pairIn}
+use Rattle.reading.specs.Reading.{cell, headForm, pairForm, pairFrom}
 use Rattle.history.specs.History.{Call, openLots, closeLots, pairUnits, splitUnits, turnDay}
 use Rattle.call_lines.specs.declared.Name.{Name}
 use Rattle.call_lines.specs.declared.Name.the-variants as name
@@ -71,8 +71,8 @@ saidBy name.Nothing cs = formless
 saidBy name.Make cs = make (figure cs 0) (figure cs 1) (figure cs 2)
 saidBy name.Open cs = lotsIn openLots cs
 saidBy name.Close cs = lotsIn closeLots cs
-saidBy name.Pair cs = call (pairUnits (pairIn cs))
-saidBy name.Split cs = call (splitUnits (pairIn cs))
+saidBy name.Pair cs = call (pairUnits (pairFrom cs))
+saidBy name.Split cs = call (splitUnits (pairFrom cs))
 saidBy name.Turn cs = call (turnDay (figure cs 0))
 
 unfoldable pub lineBy : Name → List (List ℕ) → Line

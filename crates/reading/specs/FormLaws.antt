@@ -14,7 +14,7 @@ use Rattle.lines.specs.Fields.{hasForm, cellsOf}
 use Rattle.lines.specs.Texts.{tabbed}
 use Rattle.lines.specs.PartLaws.{fields-back}
 use Rattle.lines.specs.FieldLaws.{Formed, none, next, formed, account-back}
-use Rattle.reading.specs.Reading.{headForm, holdingForm, pairForm, Line, holding, pair, formless, headIn, holdingIn, pairIn, lineIn, lineFrom, lineOf}
+use Rattle.reading.specs.Reading.{headForm, holdingForm, pairForm, Line, holding, pair, formless, headFrom, holdingFrom, pairFrom, lineIn, lineFrom, lineOf}
 use Rattle.reading.specs.Next.{accountOf}
 
 -- What holds of what the fields of each form say, and of a line that has none, holds of what any line says.
@@ -25,9 +25,9 @@ form-has P letter b ks fs {x} {y} h other =
     (λ e. other)
 
 module _ (P : Line → Type 0) (line : List ℕ)
-    (head-has : (fs : List (List ℕ)) → line ≡ bytes "A" ++ tabbed fs → Formed headForm fs → P (headIn (cellsOf headForm fs)))
-    (holding-has : (fs : List (List ℕ)) → line ≡ bytes "H" ++ tabbed fs → Formed holdingForm fs → P (holding (holdingIn (cellsOf holdingForm fs))))
-    (pair-has : (fs : List (List ℕ)) → line ≡ bytes "M" ++ tabbed fs → Formed pairForm fs → P (pair (pairIn (cellsOf pairForm fs))))
+    (head-has : (fs : List (List ℕ)) → line ≡ bytes "A" ++ tabbed fs → Formed headForm fs → P (headFrom (cellsOf headForm fs)))
+    (holding-has : (fs : List (List ℕ)) → line ≡ bytes "H" ++ tabbed fs → Formed holdingForm fs → P (holding (holdingFrom (cellsOf holdingForm fs))))
+    (pair-has : (fs : List (List ℕ)) → line ≡ bytes "M" ++ tabbed fs → Formed pairForm fs → P (pair (pairFrom (cellsOf pairForm fs))))
     (formless-has : P formless) where
   fields-have : (letter : List ℕ) (fs : List (List ℕ)) → line ≡ letter ++ tabbed fs → P (lineIn letter fs)
   unfolding lineIn
@@ -48,8 +48,8 @@ module _ (P : Line → Type 0) (line : List ℕ)
       go (letter ∷ fs) e = fields-have letter fs (fields-back line letter fs e)
 
 -- The account that a line says has seven digits.
-head-account : {fs : List (List ℕ)} → Formed headForm fs → accountOf (headIn (cellsOf headForm fs)) ≤ 9999999
-unfolding headForm headIn cellsOf
+head-account : {fs : List (List ℕ)} → Formed headForm fs → accountOf (headFrom (cellsOf headForm fs)) ≤ 9999999
+unfolding headForm headFrom cellsOf
 head-account (next {f = a} ra (next {f = b} rb (next {f = c} rc none))) = let h = account-back a ra in omega arith
 
 pub line-account : (line : List ℕ) → accountOf (lineOf line) ≤ 9999999

@@ -16,7 +16,7 @@ use Rattle.rows.specs.declared.Holding.{Holding}
 use Rattle.rows.specs.declared.Pair.{Pair}
 use Rattle.reading.specs.declared.Item.{Item}
 use Rattle.reading.specs.declared.Part.the-variants.{Number, Account, Mark, Date, Series}
-use Rattle.reading.specs.Reading.{Line, head, headIn, headForm, holdingForm, pairForm, holdingIn, pairIn}
+use Rattle.reading.specs.Reading.{Line, head, headFrom, headForm, holdingForm, pairForm, holdingFrom, pairFrom}
 use Rattle.reading.specs.Facts.{item, Items, itemBehind, itemsBehind, holdingOf, pairOf}
 
 -- What is read of a line: whether its fields have their form, what they say, and the place behind the last.
@@ -47,14 +47,14 @@ headOf is = head (item is 0 .number) (item is 1 .number) (item is 2 .number)
 
 module _ (t : List ℕ) where
   -- the parts of a line behind its letter, by the series in it
-  abbrev holdingFrom : Written → Read Holding
-  holdingFrom w =
+  abbrev holdingBy : Written → Read Holding
+  holdingBy w =
       let l = fieldBehind kind.Number t (w .stop) in
       let m = fieldBehind kind.Number t (l .stop) in
       record { right = both (w .right) (both (l .cell .right) (both (m .cell .right) true)); says = record { series = w .series; long = l .cell .number; short = m .cell .number }; stop = m .stop }
 
-  abbrev pairFrom : Field → Written → Written → Read Pair
-  pairFrom k v w =
+  abbrev pairBy : Field → Written → Written → Read Pair
+  pairBy k v w =
       let x = fieldBehind kind.Number t (w .stop) in
       let y = fieldBehind kind.Number t (x .stop) in
       let z = fieldBehind kind.Number t (y .stop) in
@@ -71,31 +71,31 @@ module _ (t : List ℕ) where
   abbrev written : Bool → Cell → Cell → Cell → Cell → ℕ → Written
   written r c d m k stop = record { right = r; series = seriesOf c d m k; stop = stop }
 
-  holding-four : (r : Bool) (c d m k : Cell) (stop : ℕ) → holdingFrom (written r c d m k stop) ≡ byCells holdingIn (joined (four r c d m k stop) (chainBehind two t stop))
-  unfolding holdingIn chainBehind
+  holding-four : (r : Bool) (c d m k : Cell) (stop : ℕ) → holdingBy (written r c d m k stop) ≡ byCells holdingFrom (joined (four r c d m k stop) (chainBehind two t stop))
+  unfolding holdingFrom chainBehind
   holding-four r c d m k stop = refl
 
-  pair-four : (f : Field) (r : Bool) (c d m k : Cell) (stop : ℕ) (r' : Bool) (c' d' m' k' : Cell) (stop' : ℕ) → pairFrom f (written r c d m k stop) (written r' c' d' m' k' stop') ≡ byCells pairIn (first f (joined (four r c d m k stop) (joined (four r' c' d' m' k' stop') (chainBehind three t stop'))))
-  unfolding pairIn chainBehind
+  pair-four : (f : Field) (r : Bool) (c d m k : Cell) (stop : ℕ) (r' : Bool) (c' d' m' k' : Cell) (stop' : ℕ) → pairBy f (written r c d m k stop) (written r' c' d' m' k' stop') ≡ byCells pairFrom (first f (joined (four r c d m k stop) (joined (four r' c' d' m' k' stop') (chainBehind three t stop'))))
+  unfolding pairFrom chainBehind
   pair-four f r c d m k stop r' c' d' m' k' stop' = refl
 
   module _ (at : ℕ) where
-    pub head-read : byItems headOf (itemsBehind (Account ∷ Mark ∷ Date ∷ []) t at) ≡ byCells headIn (chainBehind headForm t at)
-    unfolding itemsBehind itemBehind chainBehind headForm headIn
+    pub head-read : byItems headOf (itemsBehind (Account ∷ Mark ∷ Date ∷ []) t at) ≡ byCells headFrom (chainBehind headForm t at)
+    unfolding itemsBehind itemBehind chainBehind headForm headFrom
     head-read = refl
 
-    pub holding-read : byItems holdingOf (itemsBehind (Series ∷ Number ∷ Number ∷ []) t at) ≡ byCells holdingIn (chainBehind holdingForm t at)
+    pub holding-read : byItems holdingOf (itemsBehind (Series ∷ Number ∷ Number ∷ []) t at) ≡ byCells holdingFrom (chainBehind holdingForm t at)
     unfolding itemsBehind itemBehind holdingOf holdingForm writtenIn seriesForm chainBehind
     holding-read =
         holding-four (chainBehind seriesForm t at .right) _ _ _ _ (chainBehind seriesForm t at .stop)
-        ∙ ap (byCells holdingIn) (sym (chain-more seriesForm two t at))
+        ∙ ap (byCells holdingFrom) (sym (chain-more seriesForm two t at))
 
-    pub pair-read : byItems pairOf (itemsBehind (Number ∷ Series ∷ Series ∷ Number ∷ Number ∷ Number ∷ []) t at) ≡ byCells pairIn (chainBehind pairForm t at)
+    pub pair-read : byItems pairOf (itemsBehind (Number ∷ Series ∷ Series ∷ Number ∷ Number ∷ Number ∷ []) t at) ≡ byCells pairFrom (chainBehind pairForm t at)
     unfolding itemsBehind itemBehind pairOf pairForm writtenIn seriesForm chainBehind
     pair-read =
         let k = fieldBehind kind.Number t at in
         let one = chainBehind seriesForm t (k .stop) in
         let other = chainBehind seriesForm t (one .stop) in
         pair-four k (one .right) _ _ _ _ (one .stop) (other .right) _ _ _ _ (other .stop)
-        ∙ ap (λ (d : Chain). byCells pairIn (first k (joined one d))) (sym (chain-more seriesForm three t (one .stop)))
-        ∙ ap (λ (d : Chain). byCells pairIn (first k d)) (sym (chain-more seriesForm (seriesForm ++ three) t (k .stop)))
+        ∙ ap (λ (d : Chain). byCells pairFrom (first k (joined one d))) (sym (chain-more seriesForm three t (one .stop)))
+        ∙ ap (λ (d : Chain). byCells pairFrom (first k d)) (sym (chain-more seriesForm (seriesForm ++ three) t (k .stop)))

@@ -54,14 +54,14 @@ pub data Line : Type 0 where
 abbrev pub cell : List Cell → ℕ → Cell
 cell cs i = getD cs i (record { right = false; number = 0; code = [] })
 
-unfoldable pub headIn : List Cell → Line
-headIn cs = head (cell cs 0 .number) (cell cs 1 .number) (cell cs 2 .number)
+unfoldable pub headFrom : List Cell → Line
+headFrom cs = head (cell cs 0 .number) (cell cs 1 .number) (cell cs 2 .number)
 
-unfoldable pub holdingIn : List Cell → Holding
-holdingIn cs = record { series = seriesOf (cell cs 0) (cell cs 1) (cell cs 2) (cell cs 3); long = cell cs 4 .number; short = cell cs 5 .number }
+unfoldable pub holdingFrom : List Cell → Holding
+holdingFrom cs = record { series = seriesOf (cell cs 0) (cell cs 1) (cell cs 2) (cell cs 3); long = cell cs 4 .number; short = cell cs 5 .number }
 
-unfoldable pub pairIn : List Cell → Pair
-pairIn cs =
+unfoldable pub pairFrom : List Cell → Pair
+pairFrom cs =
     record {
       kind = cell cs 0 .number;
       first = seriesOf (cell cs 1) (cell cs 2) (cell cs 3) (cell cs 4);
@@ -74,9 +74,9 @@ pairIn cs =
 -- the letter, then the fields of its form
 unfoldable pub lineIn : List ℕ → List (List ℕ) → Line
 lineIn letter fs =
-    pick (both (sameBytes letter (bytes "A")) (hasForm headForm fs)) (headIn (cellsOf headForm fs))
-    (pick (both (sameBytes letter (bytes "H")) (hasForm holdingForm fs)) (holding (holdingIn (cellsOf holdingForm fs)))
-    (pick (both (sameBytes letter (bytes "M")) (hasForm pairForm fs)) (pair (pairIn (cellsOf pairForm fs))) formless))
+    pick (both (sameBytes letter (bytes "A")) (hasForm headForm fs)) (headFrom (cellsOf headForm fs))
+    (pick (both (sameBytes letter (bytes "H")) (hasForm holdingForm fs)) (holding (holdingFrom (cellsOf holdingForm fs)))
+    (pick (both (sameBytes letter (bytes "M")) (hasForm pairForm fs)) (pair (pairFrom (cellsOf pairForm fs))) formless))
 
 unfoldable pub lineFrom : List (List ℕ) → Line
 lineFrom [] = formless

@@ -22,32 +22,32 @@ use Rattle.lines.specs.LoopLaws.{InFields, InLine, line-begins, row-fields}
 use Rattle.lines.specs.Behind.{chainBehind}
 use Rattle.lines.specs.BehindLaws.{Unformed, chain-done, chain-wrong, chain-ends, chain-over}
 use Rattle.reading.specs.declared.Item.{Item}
-use Rattle.reading.specs.Reading.{Line, holding, pair, formless, headForm, holdingForm, pairForm, headIn, holdingIn, pairIn, lineIn, lineFrom, lineOf}
+use Rattle.reading.specs.Reading.{Line, holding, pair, formless, headForm, holdingForm, pairForm, headFrom, holdingFrom, pairFrom, lineIn, lineFrom, lineOf}
 use Rattle.reading.specs.Facts.{byLetter, letterIn, formFor, partsFor, itemsBehind, holdingOf, pairOf}
 use Rattle.reading.specs.LineLaws.{Read, byCells, byItems, headOf, head-read, holding-read, pair-read}
 
 -- What a line of a letter says by its cells, if it has the form.
 unfoldable pub saidBy : ℕ → List Cell → Line
-saidBy letter cs = byLetter letter (headIn cs) (holding (holdingIn cs)) (pair (pairIn cs)) formless
+saidBy letter cs = byLetter letter (headFrom cs) (holding (holdingFrom cs)) (pair (pairFrom cs)) formless
 
 by-letter : (f : List ℕ) (fs : List (List ℕ)) → lineIn f fs ≡ pick (hasForm (formFor (letterIn f)) fs) (saidBy (letterIn f) (cellsOf (formFor (letterIn f)) fs)) formless
 unfolding lineIn letterIn formFor saidBy sameBytes
 by-letter f fs =
     by-test (λ (a : Bool). sameBytes f (bytes "A") ≡ a → Goal a (sameBytes f (bytes "H")) (sameBytes f (bytes "M"))) (sameBytes f (bytes "A"))
-    (λ q a. rw (are-same f (bytes "A") a) (one-form (hasForm headForm fs) (headIn (cellsOf headForm fs))))
+    (λ q a. rw (are-same f (bytes "A") a) (one-form (hasForm headForm fs) (headFrom (cellsOf headForm fs))))
     (λ q a.
     by-test (λ (h : Bool). sameBytes f (bytes "H") ≡ h → Goal false h (sameBytes f (bytes "M"))) (sameBytes f (bytes "H"))
-    (λ q h. rw (are-same f (bytes "H") h) (one-form (hasForm holdingForm fs) (holding (holdingIn (cellsOf holdingForm fs)))))
+    (λ q h. rw (are-same f (bytes "H") h) (one-form (hasForm holdingForm fs) (holding (holdingFrom (cellsOf holdingForm fs)))))
     (λ q h.
     by-test (Goal false false) (sameBytes f (bytes "M"))
-    (λ m. one-form (hasForm pairForm fs) (pair (pairIn (cellsOf pairForm fs))))
+    (λ m. one-form (hasForm pairForm fs) (pair (pairFrom (cellsOf pairForm fs))))
     (λ m. no-form (hasForm [] fs)))
     refl)
     refl
   where
     Goal : Bool → Bool → Bool → Type 0
     Goal a h m =
-        pick (both a (hasForm headForm fs)) (headIn (cellsOf headForm fs)) (pick (both h (hasForm holdingForm fs)) (holding (holdingIn (cellsOf holdingForm fs))) (pick (both m (hasForm pairForm fs)) (pair (pairIn (cellsOf pairForm fs))) formless))
+        pick (both a (hasForm headForm fs)) (headFrom (cellsOf headForm fs)) (pick (both h (hasForm holdingForm fs)) (holding (holdingFrom (cellsOf holdingForm fs))) (pick (both m (hasForm pairForm fs)) (pair (pairFrom (cellsOf pairForm fs))) formless))
         ≡ pick (hasForm (formFor (pick a 65 (pick h 72 (pick m 77 0)))) fs) (saidBy (pick a 65 (pick h 72 (pick m 77 0))) (cellsOf (formFor (pick a 65 (pick h 72 (pick m 77 0)))) fs)) formless
 
     one-form : (t : Bool) (x : Line) → pick t x formless ≡ pick t x formless
@@ -160,21 +160,21 @@ module _ (t : List ℕ) (at : ℕ) {letter : ℕ} (is : letter ≡ letterIn (let
   unfolding partsFor formFor
   unsaid n =
       by-letters letter (Formless t at)
-      (λ l. items-unsaid t at letter is lt headOf headIn (rw l (head-read t (stopOf t at))) (n (λ x y z. x l)))
-      (λ l. items-unsaid t at letter is lt holdingOf holdingIn (rw l (holding-read t (stopOf t at))) (n (λ x y z. y l)))
-      (λ l. items-unsaid t at letter is lt pairOf pairIn (rw l (pair-read t (stopOf t at))) (n (λ x y z. z l)))
+      (λ l. items-unsaid t at letter is lt headOf headFrom (rw l (head-read t (stopOf t at))) (n (λ x y z. x l)))
+      (λ l. items-unsaid t at letter is lt holdingOf holdingFrom (rw l (holding-read t (stopOf t at))) (n (λ x y z. y l)))
+      (λ l. items-unsaid t at letter is lt pairOf pairFrom (rw l (pair-read t (stopOf t at))) (n (λ x y z. z l)))
       (λ x y z. inr (line-unknown (opens t at letter is lt .fields) x y z))
 
   -- What a line of each letter says.
   module _ (r : itemsBehind (partsFor letter) t (stopOf t at) .right ≡ true) (e : getD t (itemsBehind (partsFor letter) t (stopOf t at) .stop) 0 ≡ lf) where
     pub head-said : letter ≡ 65 → Says t at (headOf (itemsBehind (partsFor letter) t (stopOf t at) .items)) (itemsBehind (partsFor letter) t (stopOf t at) .stop)
     unfolding partsFor formFor saidBy
-    head-said l = items-said t at letter is lt headOf headIn (rw l (head-read t (stopOf t at))) r e (λ (y : Line). y) (rw l)
+    head-said l = items-said t at letter is lt headOf headFrom (rw l (head-read t (stopOf t at))) r e (λ (y : Line). y) (rw l)
 
     pub holding-said : letter ≡ 72 → Says t at (holding (holdingOf (itemsBehind (partsFor letter) t (stopOf t at) .items))) (itemsBehind (partsFor letter) t (stopOf t at) .stop)
     unfolding partsFor formFor saidBy
-    holding-said l = items-said t at letter is lt holdingOf holdingIn (rw l (holding-read t (stopOf t at))) r e holding (rw l)
+    holding-said l = items-said t at letter is lt holdingOf holdingFrom (rw l (holding-read t (stopOf t at))) r e holding (rw l)
 
     pub pair-said : letter ≡ 77 → Says t at (pair (pairOf (itemsBehind (partsFor letter) t (stopOf t at) .items))) (itemsBehind (partsFor letter) t (stopOf t at) .stop)
     unfolding partsFor formFor saidBy
-    pair-said l = items-said t at letter is lt pairOf pairIn (rw l (pair-read t (stopOf t at))) r e pair (rw l)
+    pair-said l = items-said t at letter is lt pairOf pairFrom (rw l (pair-read t (stopOf t at))) r e pair (rw l)

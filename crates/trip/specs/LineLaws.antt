@@ -26,7 +26,7 @@ use Rattle.lines.specs.Texts.{tabbed, lineText}
 use Rattle.lines.specs.PartLaws.{lacks, plain, plain-lacks, line-cut, fields-are}
 use Rattle.lines.specs.FieldLaws.{Reads, no-fields, number-reads, account-reads, date-reads, mark-reads, series-reads, series-is, Formed, none, next, number-back, account-back, date-back, mark-back, series-back}
 use Rattle.printed.specs.Printed.{headText, holdingText, pairText}
-use Rattle.reading.specs.Reading.{headForm, holdingForm, pairForm, Line, head, holding, pair, formless, headIn, holdingIn, pairIn, lineIn, lineFrom, lineOf}
+use Rattle.reading.specs.Reading.{headForm, holdingForm, pairForm, Line, head, holding, pair, formless, headFrom, holdingFrom, pairFrom, lineIn, lineFrom, lineOf}
 use Rattle.reading.specs.FormLaws.{line-has}
 
 -- a text of one line, which says x
@@ -53,21 +53,21 @@ line-says {ks} {fs} letter x p r e =
     all c h = every-weaker plain (lacks c) (plain-lacks c h) ((letter ∷ []) ∷ fs) (both-hold p (r .plain-fields))
 
 pub head-says : (account identity day : ℕ) → account ≤ 9999999 → isIdentity identity ≡ true → isDay day ≡ true → Says (headText account identity day) (head account identity day)
-unfolding headText lineIn headIn headForm sameBytes plain everyLine
+unfolding headText lineIn headFrom headForm sameBytes plain everyLine
 head-says account identity day h i d =
     let fits = day-fits day d in
     let r = account-reads (mark-reads (date-reads no-fields day (omega arith)) identity (identity-above identity i)) account (omega arith) in
     line-says (byte "A") _ refl r (rw (r .form, r .cells))
 
 pub holding-says : (h : Holding) → goodHolding h ≡ true → Says (holdingText h) (holding h)
-unfolding holdingText lineIn holdingIn holdingForm sameBytes plain everyLine
+unfolding holdingText lineIn holdingFrom holdingForm sameBytes plain everyLine
 holding-says h e =
     let g = holding-is h e in
     let r = series-reads (number-reads (number-reads no-fields (h .short) (omega arith)) (h .long) (omega arith)) (h .series) (g .series-good) in
     line-says (byte "H") _ refl r (rw (r .form, r .cells, series-is (h .series)))
 
 pub pair-says : (p : Pair) → goodPair p ≡ true → Says (pairText p) (pair p)
-unfolding pairText lineIn pairIn pairForm sameBytes plain everyLine
+unfolding pairText lineIn pairFrom pairForm sameBytes plain everyLine
 pair-says p e =
     let g = pair-is p e in
     let c = counts-are (p .r1) (p .r2) (p .units) (g .counts) in
@@ -85,17 +85,17 @@ Back line (pair p) = goodSeries (p .first) ≡ true → goodSeries (p .second) �
 Back line formless = Unit
 
 module _ (line : List ℕ) where
-  head-printed : (fs : List (List ℕ)) → line ≡ bytes "A" ++ tabbed fs → Formed headForm fs → Back line (headIn (cellsOf headForm fs))
-  unfolding Back headForm headIn cellsOf headText lineText
+  head-printed : (fs : List (List ℕ)) → line ≡ bytes "A" ++ tabbed fs → Formed headForm fs → Back line (headFrom (cellsOf headForm fs))
+  unfolding Back headForm headFrom cellsOf headText lineText
   head-printed fs is (next {f = a} ra (next {f = b} rb (next {f = c} rc none))) i = rw (is, account-back a ra .0, mark-back b (identity-above _ i), date-back c rc .0)
 
-  holding-printed : (fs : List (List ℕ)) → line ≡ bytes "H" ++ tabbed fs → Formed holdingForm fs → Back line (holding (holdingIn (cellsOf holdingForm fs)))
-  unfolding Back holdingForm holdingIn cellsOf holdingText lineText
+  holding-printed : (fs : List (List ℕ)) → line ≡ bytes "H" ++ tabbed fs → Formed holdingForm fs → Back line (holding (holdingFrom (cellsOf holdingForm fs)))
+  unfolding Back holdingForm holdingFrom cellsOf holdingText lineText
   holding-printed fs is (next {f = a} ra (next {f = b} rb (next {f = c} rc (next {f = d} rd (next {f = e} re (next {f = f} rf none)))))) g =
       rw (is, series-back a b c d rb rd g, number-back e re .0, number-back f rf .0)
 
-  pair-printed : (fs : List (List ℕ)) → line ≡ bytes "M" ++ tabbed fs → Formed pairForm fs → Back line (pair (pairIn (cellsOf pairForm fs)))
-  unfolding Back pairForm pairIn cellsOf pairText lineText
+  pair-printed : (fs : List (List ℕ)) → line ≡ bytes "M" ++ tabbed fs → Formed pairForm fs → Back line (pair (pairFrom (cellsOf pairForm fs)))
+  unfolding Back pairForm pairFrom cellsOf pairText lineText
   pair-printed fs is (next {f = k} rk (next {f = a} ra (next {f = b} rb (next {f = c} rc (next {f = d} rd (next {f = e} re (next {f = f} rf (next {f = g} rg (next {f = h} rh (next {f = r} rr (next {f = s} rs (next {f = u} ru none)))))))))))) g1 g2 =
       rw (is, number-back k rk .0, series-back a b c d rb rd g1, series-back e f g h rf rh g2, number-back r rr .0, number-back s rs .0, number-back u ru .0)
 
