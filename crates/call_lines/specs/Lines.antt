@@ -20,6 +20,7 @@ use Rattle.history.specs.History.{Call, openLots, closeLots, pairUnits, splitUn
 use Rattle.call_lines.specs.declared.Name.{Name}
 use Rattle.call_lines.specs.declared.Name.the-variants as name
 
+-- What a line says: a make, another call, or nothing, where it has not the form.
 pub data Line : Type 0 where
   make : ℕ → ℕ → ℕ → Line
   call : Call → Line

@@ -1,5 +1,5 @@
--- The theorem of the work on a text: the book that results is the `run` of base histories on the calls that the lines say, the lines answered by 0 are the calls that
--- it accepts, and a sound book stays sound. So what demand 3 says of a history holds of a text.
+-- The theorem of the work on a text: the book that results is the `run` of `history` on the calls that the lines say, the lines answered by 0 are the calls that it
+-- accepts, and a sound book stays sound. So what demand 3 says of a history holds of a text.
 use mathlib.Core.Path.{_≡_, refl, _∙_}
 use mathlib.Core.Bool.{Bool, true, false}
 use mathlib.Core.List.{List, [], _∷_, _++_}
