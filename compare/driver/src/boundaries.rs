@@ -3,7 +3,7 @@
 
 use crate::books::Market;
 use crate::fields::{fields_of, join_line, lines_of, split_line, text_of, wrong_values};
-use crate::histories::{Call, Words};
+use crate::histories::{Call, Words, NOTHING};
 use crate::inputs::Input;
 use crate::paper::*;
 use crate::rng::Rng;
@@ -184,8 +184,16 @@ fn identities(list: &mut List) {
         list.push(("boundary: fields of a book", Input::Book(text)));
     }
     let make = |identity: u32| Call::Make { account: 9_999_999, identity, day: 20240229 }.words();
-    for identity in 0..=255 {
-        list.push(("boundary: calls", Input::History(Vec::new(), vec![make(identity)])));
+    for identity in (0..=255).chain([305, u32::MAX]) {
+        list.push(("boundary: calls", Input::History(NOTHING.to_vec(), vec![make(identity)])));
+    }
+    // a refused book, and codes with a fourth byte
+    list.push(("boundary: calls", Input::History(Vec::new(), vec![make(u32::from(b'1'))])));
+    for high in [0x0000_0000, 0x0100_0000, 0xFF00_0000] {
+        let mut open = [0; 13];
+        open[..5].copy_from_slice(&[1, 0x0054_5800 | high, 20240117, 0, 0]);
+        open[12] = 1;
+        list.push(("boundary: calls", Input::History(NOTHING.to_vec(), vec![make(u32::from(b'1')), open])));
     }
 }
 
@@ -270,7 +278,7 @@ fn codes(list: &mut List) {
     }
     for part in calls.chunks(600) {
         let start = Call::Make { account: 1, identity: 65, day: 20240102 }.words();
-        list.push(("boundary: calls", Input::History(Vec::new(), std::iter::once(start).chain(part.iter().copied()).collect())));
+        list.push(("boundary: calls", Input::History(NOTHING.to_vec(), std::iter::once(start).chain(part.iter().copied()).collect())));
     }
 }
 
@@ -308,7 +316,7 @@ fn calendar(list: &mut List) {
                 calls.push(Call::Turn { day: year * 10_000 + month * 100 + day }.words());
             }
         }
-        list.push(("boundary: calls", Input::History(Vec::new(), calls)));
+        list.push(("boundary: calls", Input::History(NOTHING.to_vec(), calls)));
     }
 }
 

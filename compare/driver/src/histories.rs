@@ -18,6 +18,9 @@ pub enum Call {
     Turn { day: u32 },
 }
 
+/// The text of the empty book, for histories that begin with a make.
+pub const NOTHING: &[u8] = b"A\t0000000\t0\t20000101\n";
+
 /// A call as the thirteen words of a script.
 pub type Words = [u32; 13];
 
@@ -377,7 +380,7 @@ pub fn from_nothing(rng: &mut Rng) -> History {
     for _ in 0..1 + rng.below(60) {
         player.step(rng);
     }
-    History { book: Vec::new(), calls: player.calls }
+    History { book: NOTHING.to_vec(), calls: player.calls }
 }
 
 /// A history from the text of a random sound book.

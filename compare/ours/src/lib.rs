@@ -21,7 +21,7 @@ extern "C" {
         times: u32,
         out: *mut u8,
         room: usize,
-    ) -> usize;
+    ) -> u64;
     fn sillauger_run(
         book: *const u8,
         book_length: usize,
@@ -31,7 +31,7 @@ extern "C" {
         cells: usize,
         out: *mut u8,
         room: usize,
-    ) -> usize;
+    ) -> u64;
 }
 
 /// The proved implementation. None of its exported functions asks anything of its arguments.
@@ -45,6 +45,14 @@ fn parted(coded: u64) -> (u8, u32) {
 fn verdict(coded: u64) -> Verdict {
     let (number, line) = parted(coded);
     Verdict { number, line }
+}
+
+fn printed(coded: u64) -> Printed {
+    let (number, rest) = parted(coded);
+    match number {
+        0 => Printed { number, line: 0, length: rest as usize },
+        _ => Printed { number, line: rest, length: 0 },
+    }
 }
 
 impl Engine for Ours {
@@ -66,19 +74,15 @@ impl Engine for Ours {
                 out.len(),
             )
         };
-        let (number, rest) = parted(coded);
-        match number {
-            0 => Printed { number, line: 0, length: rest as usize },
-            _ => Printed { number, line: rest, length: 0 },
-        }
+        printed(coded)
     }
 
     fn check(&self, sheet: &[u8]) -> Verdict {
         verdict(unsafe { sillauger_check(sheet.as_ptr(), sheet.len()) })
     }
 
-    fn margin(&self, book: &[u8], sheet: &[u8], times: u32, out: &mut [u8]) -> usize {
-        unsafe {
+    fn margin(&self, book: &[u8], sheet: &[u8], times: u32, out: &mut [u8]) -> Printed {
+        printed(unsafe {
             sillauger_margin(
                 book.as_ptr(),
                 book.len(),
@@ -88,11 +92,11 @@ impl Engine for Ours {
                 out.as_mut_ptr(),
                 out.len(),
             )
-        }
+        })
     }
 
-    fn run(&self, book: &[u8], words: &[u32], numbers: &mut [u8], out: &mut [u8]) -> usize {
-        unsafe {
+    fn run(&self, book: &[u8], words: &[u32], numbers: &mut [u8], out: &mut [u8]) -> Printed {
+        printed(unsafe {
             sillauger_run(
                 book.as_ptr(),
                 book.len(),
@@ -103,6 +107,6 @@ impl Engine for Ours {
                 out.as_mut_ptr(),
                 out.len(),
             )
-        }
+        })
     }
 }

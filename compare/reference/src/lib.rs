@@ -51,11 +51,11 @@ impl Engine for Reference {
         verdict(Sheet::read(sheet))
     }
 
-    fn margin(&self, book: &[u8], sheet: &[u8], times: u32, out: &mut [u8]) -> usize {
+    fn margin(&self, book: &[u8], sheet: &[u8], times: u32, out: &mut [u8]) -> Printed {
         margin_line::<false>(book, sheet, times, out)
     }
 
-    fn run(&self, book: &[u8], words: &[u32], numbers: &mut [u8], out: &mut [u8]) -> usize {
+    fn run(&self, book: &[u8], words: &[u32], numbers: &mut [u8], out: &mut [u8]) -> Printed {
         run_script::<false>(book, words, numbers, out)
     }
 }
@@ -77,11 +77,11 @@ impl Engine for Testing {
         Reference.check(sheet)
     }
 
-    fn margin(&self, book: &[u8], sheet: &[u8], times: u32, out: &mut [u8]) -> usize {
+    fn margin(&self, book: &[u8], sheet: &[u8], times: u32, out: &mut [u8]) -> Printed {
         margin_line::<true>(book, sheet, times, out)
     }
 
-    fn run(&self, book: &[u8], words: &[u32], numbers: &mut [u8], out: &mut [u8]) -> usize {
+    fn run(&self, book: &[u8], words: &[u32], numbers: &mut [u8], out: &mut [u8]) -> Printed {
         run_script::<true>(book, words, numbers, out)
     }
 }
@@ -114,7 +114,7 @@ fn print<const TESTED: bool>(book: &Book, out: &mut [u8]) -> Result<usize, Refus
     book.print(out)
 }
 
-fn margin_line<const TESTED: bool>(book: &[u8], sheet: &[u8], times: u32, out: &mut [u8]) -> usize {
+fn margin_line<const TESTED: bool>(book: &[u8], sheet: &[u8], times: u32, out: &mut [u8]) -> Printed {
     let mut line = [0; LINE];
     let length = match margin_of_texts::<TESTED>(book, sheet, times) {
         Ok((book, amounts)) => lay_amounts(&book, amounts, &mut line),
@@ -123,9 +123,9 @@ fn margin_line<const TESTED: bool>(book: &[u8], sheet: &[u8], times: u32, out: &
     match out.get_mut(..length) {
         Some(start) => {
             start.copy_from_slice(&line[..length]);
-            length
+            printed(0, 0, length)
         }
-        None => 0,
+        None => printed(Refusal::Buffer as u8, 0, 0),
     }
 }
 
@@ -134,15 +134,27 @@ fn run_script<const TESTED: bool>(
     words: &[u32],
     numbers: &mut [u8],
     out: &mut [u8],
-) -> usize {
-    let mut book = Book::read(book).unwrap_or_default();
+) -> Printed {
+    let mut book = match Book::read(book) {
+        Ok(book) => book,
+        Err(Fault { refusal, line }) => return printed(refusal as u8, line, 0),
+    };
+    if words.len() % WORDS != 0 {
+        return printed(Refusal::Form as u8, 0, 0);
+    }
+    if numbers.len() < words.len() / WORDS || out.len() < BOOK_ROOM {
+        return printed(Refusal::Buffer as u8, 0, 0);
+    }
     for (words, number) in words.chunks_exact(WORDS).zip(numbers) {
         *number = match call::<TESTED>(&mut book, words) {
             Ok(()) => 0,
             Err(refusal) => refusal as u8,
         };
     }
-    print::<TESTED>(&book, out).unwrap_or(0)
+    match print::<TESTED>(&book, out) {
+        Ok(length) => printed(0, 0, length),
+        Err(refusal) => printed(refusal as u8, 0, 0),
+    }
 }
 
 fn verdict<T>(answer: Result<T, Fault>) -> Verdict {
@@ -162,6 +174,9 @@ fn printed(number: u8, line: u32, length: usize) -> Printed {
         length,
     }
 }
+
+/// "At most 16,384 bytes": room for the text of any book.
+const BOOK_ROOM: usize = 16_384;
 
 /// Room for a line of the margin program.
 const LINE: usize = 96;
@@ -232,7 +247,7 @@ fn call<const TESTED: bool>(book: &mut Book, words: &[u32]) -> Result<(), Refusa
     match call {
         0 => {
             *book = Book::default();
-            *book = calls::make(w9, w10 as u8, w11)?;
+            *book = calls::make(w9, u8::try_from(w10).unwrap_or(0), w11)?;
             Ok(())
         }
         1 => book.open(first, side, w12),
@@ -243,11 +258,12 @@ fn call<const TESTED: bool>(book: &mut Book, words: &[u32]) -> Result<(), Refusa
     }
 }
 
-/// A series of four words. The code's bytes are the lower three; "a two-letter code has 0 for its third byte".
+/// A series of four words. The code's bytes are the lower three; "a two-letter code has 0 for its third byte", and one with a fourth byte is none.
 fn asked(code: &[u8; 4], date: u32, nature: u32, strike: u32) -> Asked<'_> {
     let code: &[u8] = match code {
-        [_, short @ .., 0] => short,
-        [_, whole @ ..] => whole,
+        [0, short @ .., 0] => short,
+        [0, whole @ ..] => whole,
+        _ => &[],
     };
     let (nature, strike) = match nature {
         0 => (Nature::Future, 0),

@@ -24,7 +24,7 @@ fn tabs(text: &str) -> Vec<u8> {
 
 fn margin(book: &str, sheet: &str) -> String {
     let mut out = [0; 96];
-    let length = Reference.margin(&tabs(book), &tabs(sheet), 2, &mut out);
+    let length = Reference.margin(&tabs(book), &tabs(sheet), 2, &mut out).length;
     String::from_utf8_lossy(&out[..length]).replace('\t', " ")
 }
 
@@ -68,7 +68,7 @@ fn run(book: &str, calls: &[Vec<u32>]) -> (Vec<u8>, String) {
     assert_eq!(words.len(), calls.len() * WORDS);
     let mut numbers = vec![255; calls.len()];
     let mut out = [0; 16_384];
-    let length = Reference.run(&tabs(book), &words, &mut numbers, &mut out);
+    let length = Reference.run(&tabs(book), &words, &mut numbers, &mut out).length;
     let text = String::from_utf8_lossy(&out[..length]).replace('\t', " ");
     (numbers, text)
 }
@@ -221,8 +221,9 @@ fn calls_make_and_unmake_a_book() {
     let long = series(b"TXO", 20240117, 1, 21_000_000);
     let short = series(b"TXO", 20240117, 1, 21_200_000);
     let none = [u32::MAX; 4];
+    let empty = "A 0000000 0 20000101\n";
     let (numbers, text) = run(
-        "",
+        empty,
         &[
             call(0, none, none, [7, u32::from(b'a'), 20240132, 0]),
             call(0, none, none, [7, u32::from(b'1'), 20240132, 0]),
@@ -256,7 +257,6 @@ fn calls_make_and_unmake_a_book() {
         "A 0000007 1 20240103\nH TXO 20240117 C 21000000 100000 0\n"
     );
     let refused = [call(0, none, none, [10_000_000, 0, 0, 0])];
-    let empty = "A 0000000 0 20000101\n";
     assert_eq!(run(BOOK, &refused), (vec![2], empty.to_string()));
 }
 

@@ -25,7 +25,7 @@ use Rattle.rules.specs.RuleLaws.{holding-is, holdings-count, holdings-good, pai
 use Rattle.sheets.specs.LookupLaws.{map-says}
 use Rattle.sound.specs.Walk.{noRow, noPair, Walkable}
 use Rattle.quotes.specs.declared.Quote.{Quote}
-use Rattle.quotes.specs.View.{View}
+use Rattle.sheets.specs.View.{View}
 use Rattle.quotes.specs.Quotes.{noQuote, onSheet, quoteOf}
 use Rattle.account.specs.declared.Part.{Part}
 use Rattle.account.specs.Needed.{neededByHolding, neededByPair, neededBy}

@@ -14,7 +14,7 @@ use Rattle.levels.specs.Levels.{flat}
 use Rattle.rows.specs.declared.Book.{Book}
 use Rattle.rules.specs.Rules.{soundBook}
 use Rattle.sheets.specs.declared.Sheet.{Sheet}
-use Rattle.quotes.specs.View.{sheetView}
+use Rattle.sheets.specs.View.{sheetView}
 use Rattle.quotes.specs.Quotes.{onSheet}
 use Rattle.account.specs.declared.Margin.{Margin}
 use Rattle.account.specs.Needed.{neededBy}

@@ -16,7 +16,7 @@ use Rattle.rules.specs.Facts.{Sound}
 use Rattle.rules.specs.RuleLaws.{pairs-good, pairs-count}
 use Rattle.sound.specs.Walk.{noPair, Walkable}
 use Rattle.quotes.specs.declared.Quote.{Quote}
-use Rattle.quotes.specs.View.{View}
+use Rattle.sheets.specs.View.{View}
 use Rattle.quotes.specs.Quotes.{noQuote, quoteOf}
 use Rattle.account.specs.Walk.{QuotesAre}
 

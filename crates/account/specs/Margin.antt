@@ -18,8 +18,8 @@ use Rattle.rows.specs.Book.{holdingsOf, pairsOf}
 use Rattle.rules.specs.Lots.{freeRows}
 use Rattle.rules.specs.Rules.{soundBook}
 use Rattle.sheets.specs.declared.Sheet.{Sheet}
-use Rattle.checking.specs.Reading.{readText}
-use Rattle.quotes.specs.View.{View, sheetView}
+use Rattle.checking.specs.Reading.{readSheet}
+use Rattle.sheets.specs.View.{View, sheetView}
 use Rattle.quotes.specs.Quotes.{onSheet, quoteOf}
 use Rattle.account.specs.declared.Margin.{Margin}
 use Rattle.account.specs.Needed.{chargedLots, neededBy}
@@ -80,4 +80,4 @@ marginOn b sheet =
 
 -- a book, and any text as sheet
 unfoldable pub marginText : Book → List ℕ → Margin
-marginText b text = marginOn b (readText text)
+marginText b text = marginOn b (readSheet text)

@@ -13,7 +13,7 @@ use Rattle.rows.specs.declared.Pair.{Pair}
 use Rattle.rows.specs.declared.Book.{Book}
 use Rattle.rows.specs.Book.{holdingsOf, pairsOf}
 use Rattle.rules.specs.Lots.{freeRows}
-use Rattle.quotes.specs.Quotes.{SheetLine, ownLine, lotLines, tenthLines}
+use Rattle.quotes.specs.Quotes.{SheetLine, ownLine, lotLines, parentLines}
 
 -- "Free long options cost nothing; every free future is charged": the lots of a holding's free ones that are charged
 unfoldable pub chargedLots : Holding → ℕ
@@ -39,7 +39,7 @@ neededByPair p =
     byKind (p .kind)
     (ownLineOf (p .first) ∷ [])
     (ownLineOf (p .first) ∷ [])
-    (linesOf (p .first) ++ (linesOf (p .second) ++ tenthLines (productOf (p .second .code))))
+    (linesOf (p .first) ++ (linesOf (p .second) ++ parentLines (productOf (p .second .code))))
     (linesOf (p .first) ++ linesOf (p .second))
     (linesOf (p .first) ++ linesOf (p .second))
     (linesOf (p .second))

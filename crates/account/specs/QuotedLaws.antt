@@ -4,11 +4,8 @@ use mathlib.Core.List.{List, [], _∷_}
 use Prim.Native.Nat.{ℕ, _+_, _<_, _≤_, min}
 use native.Mathlib.Omega.{arith}
 use native.Mathlib.Decide.{decLt}
-use borrow.Author.Tests.{lt-ltb, le-ltb}
-use lib.Dec.{ltb}
-use lib.ListN.{getD, length, take, set, length-set, replicate, length-replicate, List·getD-eq-default}
+use lib.ListN.{getD, length, take, set, length-set, replicate, length-replicate}
 use lib.Seq.{getD-set-same, getD-set-other}
-use Rattle.laws.specs.Truth.{pick}
 use Rattle.halving.specs.Halving.{keyAt}
 use Rattle.codes.specs.declared.Product.{Product}
 use Rattle.codes.specs.Codes.{productOf}
@@ -19,26 +16,19 @@ use Rattle.rows.specs.declared.Holding.{Holding}
 use Rattle.sheets.specs.declared.Found.{Found}
 use Rattle.sheets.specs.declared.Sheet.{Sheet}
 use Rattle.sheets.specs.Rows.{nothing, noIndex, noStock}
-use Rattle.sheets.specs.Sheet.{futurePlace, optionPlace, stockPlace, priceAmong, pricesAt, clearingOn, indexOn, stockOn, priceOn}
+use Rattle.sheets.specs.Sheet.{futurePlace, optionPlace, stockPlace, nearest, rowAt, priceAmong, pricesAt, clearingOn, indexOn, stockOn, priceOn}
 use Rattle.sheets.specs.SeekLaws.{filled-says}
+use Rattle.sheets.specs.TableLaws.{row-inside}
 use Rattle.sound.specs.Walk.{noRow, Keyed}
 use Rattle.quotes.specs.declared.Quote.{Quote}
-use Rattle.quotes.specs.View.{View, saying, sheetView}
+use Rattle.sheets.specs.View.{View, saying, sheetView}
 use Rattle.quotes.specs.Quotes.{noQuote, quoteAs, quoteOf}
 use Rattle.quotes.specs.QuoteLaws.{quote-said}
 use Rattle.account.specs.Walk.{Priced, QuotesAre}
 
--- The row at a place of 676, read at the nearest place that there is.
-row-inside : (rows : List StockLine) (at : ℕ) → length rows ≡ 676 → pick (ltb at 676) (getD rows (min at 675) noStock) noStock ≡ getD rows at noStock
-row-inside rows at long = go (decLt at 676)
-  where
-    go : Dec (at < 676) → pick (ltb at 676) (getD rows (min at 675) noStock) noStock ≡ getD rows at noStock
-    go (yes q) = let e : min at 675 ≡ at = omega arith in rw (lt-ltb at 676 q, e) refl
-    go (no q) = rw (le-ltb at 676 (omega arith)) (sym (List·getD-eq-default rows noStock (omega arith)))
-
 -- What the lookups of a series find, put together, is its quote.
 module _ (sheet : Sheet) (s : Series) {p : Product} {clearing price : Found} {index : IndexLine} {stock : StockLine} {at k : ℕ} {q : Quote} where
-  pub row-quoted : length (sheet .stocks) ≡ 676 → p ≡ productOf (s .code) → clearing ≡ getD (sheet .futures) (futurePlace (p .parent)) nothing → index ≡ getD (sheet .options) (optionPlace (s .code)) noIndex → at ≡ stockPlace (p .parent) → k ≡ min at 675 → stock ≡ pick (ltb at 676) (getD (sheet .stocks) k noStock) noStock → price ≡ sheetView sheet .price s → q ≡ quoteAs (saying clearing index stock price) p s → q ≡ quoteOf (sheetView sheet) s
+  pub row-quoted : length (sheet .stocks) ≡ 676 → p ≡ productOf (s .code) → clearing ≡ getD (sheet .futures) (futurePlace (p .parent)) nothing → index ≡ getD (sheet .options) (optionPlace (s .code)) noIndex → at ≡ stockPlace (p .parent) → k ≡ nearest at → stock ≡ rowAt at (getD (sheet .stocks) k noStock) → price ≡ sheetView sheet .price s → q ≡ quoteAs (saying clearing index stock price) p s → q ≡ quoteOf (sheetView sheet) s
   unfolding sheetView quoteOf clearingOn indexOn stockOn
   row-quoted long hp hc hi ha hk hs hv hq =
       let st : stock ≡ stockOn sheet (p .parent) = rw (hs, hk, row-inside (sheet .stocks) at long, ha) refl in

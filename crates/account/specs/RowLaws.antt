@@ -33,7 +33,7 @@ use Rattle.levels.specs.LevelLaws.{each-at-most}
 use Rattle.units.specs.Units.{formula, unitChecks, unitNumber, unitMargin}
 use Rattle.units.specs.LimitLaws.{unit-is}
 use Rattle.units.specs.UnitLaws.{unit-answered, pair-most as units-most}
-use Rattle.quotes.specs.View.{View}
+use Rattle.sheets.specs.View.{View}
 use Rattle.quotes.specs.Quotes.{onSheet, ownLine, quoteAs, quoteOf}
 use Rattle.quotes.specs.QuoteLaws.{ready-lined, lot-most, lot-taken, terms-taken}
 use Rattle.account.specs.Needed.{chargedLots, ownLineOf, linesOf, neededByHolding, neededByPair}
@@ -98,7 +98,7 @@ both-lined v p g =
     two e = let r = both-true (quoteOf v (p .first) .ready) _ e in (ready-lined v (p .first) (r .0), ready-lined v (p .second) (r .1))
 
 -- Then its unit is taken, and the pair comes to what its kind's formula says.
-unit-taken : (v : View) (p : Pair) → goodPair p ≡ true → pairReady (p .kind) (quoteOf v (p .first)) (quoteOf v (p .second)) ≡ true → allPass (unitChecks (p .kind) (quoteOf v (p .first) .lot) (quoteOf v (p .second) .lot) (quoteOf v (p .second) .terms) (p .r1) (p .r2)) ≡ true
+pub unit-taken : (v : View) (p : Pair) → goodPair p ≡ true → pairReady (p .kind) (quoteOf v (p .first)) (quoteOf v (p .second)) ≡ true → allPass (unitChecks (p .kind) (quoteOf v (p .first) .lot) (quoteOf v (p .second) .lot) (quoteOf v (p .second) .terms) (p .r1) (p .r2)) ≡ true
 unfolding unitChecks allPass
 unit-taken v p g e =
     let q = pair-is p g in

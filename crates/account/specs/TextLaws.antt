@@ -32,14 +32,14 @@ use Rattle.sheets.specs.declared.OptionRow.{OptionRow}
 use Rattle.sheets.specs.declared.StockRow.{StockRow}
 use Rattle.sheets.specs.declared.PriceRow.{PriceRow}
 use Rattle.sheets.specs.Rows.{futureCodes, optionCodes, twoCapitals, nothing, noIndex, noStock, clearingIn, indexIn, stockIn, priceIn}
-use Rattle.checking.specs.Lines.{among}
-use Rattle.checking.specs.Reading.{rowsOf, judged, readText}
+use Rattle.sheet_lines.specs.Lines.{among}
+use Rattle.checking.specs.Reading.{rowsOf, judged, readSheet}
 use Rattle.checking.specs.Next.{goodFuture, goodOption, goodStock, goodPrice}
 use Rattle.checking.specs.RowLaws.{futures-good, options-good, stocks-good, prices-good}
 use Rattle.checking.specs.SheetLaws.{judged-good, found-clearing, found-index, found-stock, found-price}
 use Rattle.quotes.specs.declared.Quote.{Quote}
-use Rattle.quotes.specs.View.{View, rowsView, sheetView}
-use Rattle.quotes.specs.Quotes.{SheetLine, fLine, oLine, sLine, qLine, clearingStands, priceStands, onSheet, tenthLines, quoteAs, quoteOf}
+use Rattle.sheets.specs.View.{View, rowsView, sheetView}
+use Rattle.quotes.specs.Quotes.{SheetLine, fLine, oLine, sLine, qLine, clearingStands, priceStands, onSheet, parentLines, quoteAs, quoteOf}
 use Rattle.quotes.specs.QuoteLaws.{quote-same}
 use Rattle.account.specs.Needed.{chargedLots, ownLineOf, linesOf, neededByHolding, neededByPair, neededBy}
 use Rattle.account.specs.Margin.{times, plus, holdingMargin, pairMargin, sumLevels, paysC, accountMargin, marginChecks, marginText}
@@ -96,9 +96,9 @@ module _ (v w : View) (same : (s : Series) → goodSeries s ≡ true → quoteOf
     unfolding quoteOf quoteAs linesOf
     same-lot = ap (λ (q : Quote). q .ready) (same s g)
 
-    same-tenth : Same (tenthLines (productOf (s .code)))
+    same-timed : Same (parentLines (productOf (s .code)))
     unfolding quoteOf quoteAs
-    same-tenth = ap (λ (q : Quote). q .tenth) (same s g)
+    same-timed = ap (λ (q : Quote). q .timed) (same s g)
 
   same-holding : (h : Holding) → goodSeries (h .series) ≡ true → Same (neededByHolding h)
   unfolding neededByHolding everyLine
@@ -115,7 +115,7 @@ module _ (v w : View) (same : (s : Series) → goodSeries s ≡ true → quoteOf
       each-kind _ _ _ _ _ _ _ _ _ Same (p .kind)
       (λ k. own)
       (λ k. own)
-      (λ k. same-joined (linesOf (p .first)) _ (same-lot (p .first) f) (same-joined (linesOf (p .second)) _ (same-lot (p .second) s) (same-tenth (p .second) s)))
+      (λ k. same-joined (linesOf (p .first)) _ (same-lot (p .first) f) (same-joined (linesOf (p .second)) _ (same-lot (p .second) s) (same-timed (p .second) s)))
       (λ k. two)
       (λ k. two)
       (λ k. same-lot (p .second) s)
@@ -152,26 +152,26 @@ module _ (v w : View) (same : (s : Series) → goodSeries s ≡ true → quoteOf
 
 -- The sheet of a text, and the text's rows.
 module _ (t : List ℕ) where
-  pub text-quote : (s : Series) → goodSeries s ≡ true → quoteOf (sheetView (readText t)) s ≡ quoteOf (rowsView (rowsOf (judged t .lines))) s
+  pub text-quote : (s : Series) → goodSeries s ≡ true → quoteOf (sheetView (readSheet t)) s ≡ quoteOf (rowsView (rowsOf (judged t .lines))) s
   unfolding sheetView rowsView
   text-quote s g =
-      quote-same (sheetView (readText t)) (rowsView (rowsOf (judged t .lines))) s
+      quote-same (sheetView (readSheet t)) (rowsView (rowsOf (judged t .lines))) s
       (found-clearing t (productOf (s .code) .parent))
       (found-index t (s .code))
       (found-stock t (productOf (s .code) .parent))
       (found-price t s g)
 
-  pub text-needed : (b : Book) → soundBook b ≡ true → everyLine (onSheet (sheetView (readText t))) (neededBy b) ≡ everyLine (onSheet (rowsView (rowsOf (judged t .lines)))) (neededBy b)
+  pub text-needed : (b : Book) → soundBook b ≡ true → everyLine (onSheet (sheetView (readSheet t))) (neededBy b) ≡ everyLine (onSheet (rowsView (rowsOf (judged t .lines)))) (neededBy b)
   text-needed b e = same-needed _ _ text-quote b e
 
-  pub text-margin : (b : Book) → soundBook b ≡ true → accountMargin (sheetView (readText t)) b ≡ accountMargin (rowsView (rowsOf (judged t .lines))) b
+  pub text-margin : (b : Book) → soundBook b ≡ true → accountMargin (sheetView (readSheet t)) b ≡ accountMargin (rowsView (rowsOf (judged t .lines))) b
   text-margin b e = same-margin _ _ text-quote b e
 
   -- So an accepted call answers the margin that the rows make.
-  pub text-accepted : (b : Book) → allPass (marginChecks b (readText t)) ≡ true → marginText b t ≡ record { number = 0; line = 0; levels = accountMargin (rowsView (rowsOf (judged t .lines))) b }
+  pub text-accepted : (b : Book) → allPass (marginChecks b (readSheet t)) ≡ true → marginText b t ≡ record { number = 0; line = 0; levels = accountMargin (rowsView (rowsOf (judged t .lines))) b }
   unfolding marginText marginChecks allPass
   text-accepted b e =
-      margin-accepted b (readText t) e
+      margin-accepted b (readSheet t) e
       ∙ ap (λ (l : Levels). record { number = 0; line = 0; levels = l }) (text-margin b (both-true (soundBook b) _ e .0))
 
 -- Of rows that all fit, what is found of a key fits exactly where a row has that key.

@@ -17,7 +17,7 @@ use Rattle.sheets.specs.declared.Found.{Found}
 use Rattle.sheets.specs.Rows.{nothing}
 use Rattle.sound.specs.Walk.{noRow, noPair}
 use Rattle.quotes.specs.declared.Quote.{Quote}
-use Rattle.quotes.specs.View.{View}
+use Rattle.sheets.specs.View.{View}
 use Rattle.quotes.specs.Quotes.{noQuote, quoteOf}
 use Rattle.account.specs.declared.Part.{Part}
 use Rattle.account.specs.Needed.{chargedLots}
@@ -61,7 +61,7 @@ pairReady kind first second =
     byKind kind
     (first .lined)
     (first .lined)
-    (both (first .ready) (both (second .ready) (second .tenth)))
+    (both (first .ready) (both (second .ready) (second .timed)))
     (both (first .ready) (second .ready))
     (both (first .ready) (second .ready))
     (second .ready)

@@ -1,18 +1,14 @@
 // The account's margin: a book and a day's sheet, both handed in; three amounts, or the number and line of a refusal.
 ghost use mathlib.Core.Path.{_≡_};
 ghost use mathlib.Core.Bool.{true, false};
-ghost use Prim.Native.Nat.{ℕ, _≤_, _<_, min};
-ghost use lib.Dec.{ltb};
-ghost use Rattle.laws.specs.Truth.{pick};
+ghost use Prim.Native.Nat.{ℕ, _≤_, _<_};
 ghost use Rattle.levels.specs.Levels.{flat};
 ghost use Rattle.levels.specs.Ranges.{AtMost};
-ghost use Rattle.sheets.specs.Rows.{noStock};
 ghost use Rattle.sound.specs.Walk.{noRow, Keyed};
-ghost use Rattle.quotes.specs.View.{sheetView};
+ghost use Rattle.sheets.specs.View.{sheetView};
 ghost use Rattle.account.specs.Needed.{chargedLots};
 ghost use Rattle.account.specs.Margin.{times, plus, marginOn, marginText};
 ghost use Rattle.account.specs.Walk.{Priced, QuotesAre, allBelow, sumBelow, partOf, rowLimit, holdingReady, holdingComes, pairReady, pairComes, readyAt, comesAt, pairReadyAt, pairComesAt, PairStands};
-use amounts::StockLine;
 use levels::Levels;
 use quotes::Quote;
 use rows::Book;
@@ -77,19 +73,6 @@ fn add(l: Levels, m: Levels) -> Levels
     }
 }
 
-// The row at a place of 676, or that there is none.
-fn inside(at: usize) -> usize
-    ensures { λ r. ⌜ r ≡ min at 675 ⌝ }
-{
-    if at < 675 { at } else { 675 }
-}
-
-fn stock_at(at: usize, row: StockLine) -> StockLine
-    ensures { λ r. ⌜ r ≡ pick (ltb at 676) row noStock ⌝ }
-{
-    if at < 676 { row } else { sheets::no_stock() }
-}
-
 // What the sheet, and the price that was found for it, say of the series of each of the first `held` rows.
 fn quotes_of(rows: [Holding; 128], held: usize, sheet: Sheet, prices: [Found; 128]) -> [Quote; 128]
     requires { ⌜ (held ≤ 128) × Priced (sheetView sheet) rows held prices ⌝ }
@@ -109,8 +92,8 @@ fn quotes_of(rows: [Holding; 128], held: usize, sheet: Sheet, prices: [Found; 12
         let clearing = sheets::clearing_of(futures, parent);
         let index = sheets::index_of(options, code);
         let at = sheets::stock_place(parent);
-        let row = sheet.stocks[inside(at)];
-        let stock = stock_at(at, row);
+        let row = sheet.stocks[sheets::nearest_place(at)];
+        let stock = sheets::stock_at(at, row);
         let price = prices[i];
         let q = quotes::quote_for(product, s, clearing, index, stock, price);
         quotes[i] = q;
@@ -193,7 +176,7 @@ fn pair_ready(kind: u32, first: Quote, second: Quote) -> bool
     match kind {
         1 => first.lined,
         2 => first.lined,
-        3 => laws::and(first.ready, laws::and(second.ready, second.tenth)),
+        3 => laws::and(first.ready, laws::and(second.ready, second.timed)),
         4 => ready,
         5 => ready,
         6 => second.ready,

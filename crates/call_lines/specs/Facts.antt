@@ -8,26 +8,26 @@ use Rattle.laws.specs.Truth.{pick, both, either}
 use Rattle.laws.specs.Text.{byte}
 use Rattle.series.specs.declared.Side.{Side}
 use Rattle.series.specs.declared.Side.the-variants.{Long, Short}
-use Rattle.lines.specs.declared.Kind.{Kind}
+use Rattle.lines.specs.declared.Asked.{Asked}
 use Rattle.lines.specs.declared.Cell.{Cell}
-use Rattle.lines.specs.Parts.{lf, nextOf}
+use Rattle.lines.specs.Pieces.{lf, nextOf}
 use Rattle.lines.specs.Fields.{seriesOf}
 use Rattle.lines.specs.Behind.{chainBehind}
 use Rattle.lines.specs.StopLaws.{lineAt}
-use Rattle.reading.specs.Reading.{cell, headForm, pairForm, pairFrom}
+use Rattle.book_lines.specs.Lines.{cell, headForm, pairForm, pairFrom}
 use Rattle.call_lines.specs.declared.Name.{Name}
 use Rattle.call_lines.specs.declared.MakeLine.{MakeLine}
 use Rattle.call_lines.specs.declared.LotsLine.{LotsLine}
 use Rattle.call_lines.specs.declared.UnitsLine.{UnitsLine}
 use Rattle.call_lines.specs.declared.DayLine.{DayLine}
-use Rattle.call_lines.specs.Lines.{Line, formless, figure, lotsForm, dayForm, formOf, saidBy, lineOf}
+use Rattle.call_lines.specs.Lines.{Line, formless, figure, lotsForm, dayForm, formOf, saidBy, callLine}
 
 -- what stands in the fields of a form behind the name that ends at `at`
-abbrev pub cellsBehind : List Kind → List ℕ → ℕ → List Cell
+abbrev pub cellsBehind : List Asked → List ℕ → ℕ → List Cell
 cellsBehind form t at = chainBehind form t at .cells
 
 -- they have the form, and the line ends behind them
-unfoldable pub formed : List Kind → List ℕ → ℕ → Bool
+unfoldable pub formed : List Asked → List ℕ → ℕ → Bool
 formed form t at = both (chainBehind form t at .right) (eqb (getD t (chainBehind form t at .stop) 0) lf)
 
 unfoldable pub isSide : ℕ → Bool
@@ -68,4 +68,4 @@ lineBehind n t at = pick (formed (formOf n) t at) (saidBy n (cellsBehind (formOf
 
 -- what the line that begins at `at` says; one without its LF has not the form
 unfoldable pub saidAt : List ℕ → ℕ → Line
-saidAt t at = pick (ltb (nextOf t at lf) (length t)) (lineOf (lineAt t at)) formless
+saidAt t at = pick (ltb (nextOf t at lf) (length t)) (callLine (lineAt t at)) formless

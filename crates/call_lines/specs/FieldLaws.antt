@@ -9,18 +9,18 @@ use Rattle.laws.specs.Truth.{both}
 use Rattle.laws.specs.TruthLaws.{both-end}
 use Rattle.series.specs.declared.Side.{Side}
 use Rattle.rows.specs.declared.Pair.{Pair}
-use Rattle.lines.specs.declared.Kind.{Kind}
-use Rattle.lines.specs.declared.Kind.the-variants.{Number, Account, Date, Mark}
+use Rattle.lines.specs.declared.Asked.{Asked}
+use Rattle.lines.specs.declared.Asked.the-variants.{Number, Account, Date, Mark}
 use Rattle.lines.specs.declared.Cell.{Cell}
 use Rattle.lines.specs.declared.Field.{Field}
 use Rattle.lines.specs.declared.Written.{Written}
-use Rattle.lines.specs.Parts.{lf}
+use Rattle.lines.specs.Pieces.{lf}
 use Rattle.lines.specs.Fields.{seriesOf}
 use Rattle.lines.specs.Behind.{fieldBehind, Chain, chainBehind, seriesForm, writtenIn}
 use Rattle.lines.specs.BehindLaws.{joined, chain-more}
-use Rattle.reading.specs.Reading.{headForm}
-use Rattle.reading.specs.Facts.{itemBehind, itemsBehind, pairOf}
-use Rattle.reading.specs.LineLaws.{Read, pair-read}
+use Rattle.book_lines.specs.Lines.{headForm}
+use Rattle.book_lines.specs.Facts.{itemBehind, itemsBehind, pairOf}
+use Rattle.book_lines.specs.LineLaws.{Read, pair-read}
 use Rattle.call_lines.specs.declared.LotsLine.{LotsLine}
 use Rattle.call_lines.specs.declared.UnitsLine.{UnitsLine}
 use Rattle.call_lines.specs.Lines.{lotsForm, dayForm}
@@ -45,7 +45,7 @@ module _ (t : List ℕ) (at : ℕ) where
 
 -- A series, a side and lots: by the series.
 module _ (t : List ℕ) where
-  abbrev two : List Kind
+  abbrev two : List Asked
   two = Mark ∷ Number ∷ []
 
   lotsOf : Chain → LotsLine

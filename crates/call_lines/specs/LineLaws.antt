@@ -20,23 +20,23 @@ use Rattle.rules.specs.Rules.{accountFits, isIdentity}
 use Rattle.laws.specs.Checks.{firstFailing, allPass}
 use Rattle.calls.specs.declared.Outcome.{Outcome}
 use Rattle.calls.specs.Calls.{outcome, answered, makeChecks, makeAnswer, openAnswer, closeAnswer, pairAnswer, splitAnswer, turnAnswer}
-use Rattle.history.specs.History.{Call, step}
-use Rattle.lines.specs.declared.Kind.{Kind}
-use Rattle.lines.specs.Parts.{lf, nextOf, stopOf}
+use Rattle.history.specs.History.{BookCall, step}
+use Rattle.lines.specs.declared.Asked.{Asked}
+use Rattle.lines.specs.Pieces.{lf, nextOf, stopOf}
 use Rattle.lines.specs.Fields.{noCell, hasForm, cellsOf}
 use Rattle.lines.specs.CutLaws.{next-low, fieldsBehind}
 use Rattle.lines.specs.StopLaws.{stop-high, lineAt, stop-within, text-in-line}
 use Rattle.lines.specs.LoopLaws.{InLine, line-begins, row-fields}
 use Rattle.lines.specs.Behind.{chainBehind}
 use Rattle.lines.specs.BehindLaws.{Unformed, behind-off, chain-done, chain-wrong, chain-ends, chain-over}
-use Rattle.reading.specs.Reading.{headForm, pairForm}
+use Rattle.book_lines.specs.Lines.{headForm, pairForm}
 use Rattle.call_lines.specs.declared.Name.{Name}
 use Rattle.call_lines.specs.declared.Name.the-variants as name
 use Rattle.call_lines.specs.declared.MakeLine.{MakeLine}
 use Rattle.call_lines.specs.declared.LotsLine.{LotsLine}
 use Rattle.call_lines.specs.declared.UnitsLine.{UnitsLine}
 use Rattle.call_lines.specs.declared.DayLine.{DayLine}
-use Rattle.call_lines.specs.Lines.{Line, call, formless, nameIn, lotsForm, dayForm, formOf, sided, lotsIn, saidBy, lineBy, lineFrom, lineOf}
+use Rattle.call_lines.specs.Lines.{Line, call, formless, nameIn, lotsForm, dayForm, formOf, sided, lotsIn, saidBy, lineBy, lineFrom, callLine}
 use Rattle.call_lines.specs.Work.{answerTo}
 use Rattle.call_lines.specs.Facts.{cellsBehind, formed, isSide, sideOf, makeSaid, makeBehind, lotsSaid, lotsBehind, unitsBehind, dayBehind, lineBehind, saidAt}
 
@@ -52,7 +52,7 @@ form-few name.Split = omega arith
 form-few name.Turn = omega arith
 
 -- Behind the end of the text nothing has a form.
-end-unformed : (form : List Kind) (t : List ℕ) (at : ℕ) → length t ≤ at → formed form t at ≡ false
+end-unformed : (form : List Asked) (t : List ℕ) (at : ℕ) → length t ≤ at → formed form t at ≡ false
 unfolding formed chainBehind
 end-unformed [] t at h = rw (List·getD-eq-default t 0 h)
 end-unformed (k ∷ ks) t at h = rw (behind-off k t at (λ e. let z = List·getD-eq-default t 0 h in omega arith))
@@ -76,8 +76,8 @@ module _ (t : List ℕ) (at : ℕ) (n : Name) (named : n ≡ nameIn (nameText t 
   name-is : nameText t at ≡ take (stopOf t at - at - 0) (drop 0 (lineAt t at))
   name-is = let z : at - at ≡ 0 = omega arith in rw z at (text-in-line t at {from = at} (omega arith) (next-low t at lf) {s = stopOf t at} refl)
 
-  line-is : lineOf (lineAt t at) ≡ pick (hasForm (formOf n) behind) (saidBy n (cellsOf (formOf n) behind)) formless
-  unfolding lineOf lineFrom lineBy behind
+  line-is : callLine (lineAt t at) ≡ pick (hasForm (formOf n) behind) (saidBy n (cellsOf (formOf n) behind)) formless
+  unfolding callLine lineFrom lineBy behind
   line-is = ap lineFrom (row-fields (lineAt t at) (opens .fields .first-is)) ∙ rw (← name-is, ← named)
 
   line-formed : formed (formOf n) t (stopOf t at) ≡ true → saidAt t at ≡ saidBy n (cellsBehind (formOf n) t (stopOf t at))
@@ -128,7 +128,7 @@ module _ (first : Bool) (b : Book) where
   by-form true x = refl
   by-form false x = refl
 
-  by-side : (f : Bool) (mark : ℕ) (of : Side → Call) → pick (both f (isSide mark)) (answerTo first b (call (of (sideOf mark)))) (outcome 1 b) ≡ answerTo first b (pick f (sided mark of) formless)
+  by-side : (f : Bool) (mark : ℕ) (of : Side → BookCall) → pick (both f (isSide mark)) (answerTo first b (call (of (sideOf mark)))) (outcome 1 b) ≡ answerTo first b (pick f (sided mark of) formless)
   unfolding answerTo isSide sideOf sided
   by-side f mark of =
       by-test (λ (g : Bool). pick (both g (either (eqb mark 76) (eqb mark 83))) (answerTo first b (call (of (pick (eqb mark 76) Long Short)))) (outcome 1 b) ≡ answerTo first b (pick g (pick (eqb mark 76) (call (of Long)) (pick (eqb mark 83) (call (of Short)) formless)) formless)) f

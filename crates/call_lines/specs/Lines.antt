@@ -10,20 +10,20 @@ use Rattle.series.specs.declared.Series.{Series}
 use Rattle.series.specs.declared.Side.{Side}
 use Rattle.series.specs.declared.Side.the-variants.{Long, Short}
 use Rattle.rows.specs.declared.Pair.{Pair}
-use Rattle.lines.specs.declared.Kind.{Kind}
-use Rattle.lines.specs.declared.Kind.the-variants.{Number, Date, Code, Mark}
+use Rattle.lines.specs.declared.Asked.{Asked}
+use Rattle.lines.specs.declared.Asked.the-variants.{Number, Date, Code, Mark}
 use Rattle.lines.specs.declared.Cell.{Cell}
-use Rattle.lines.specs.Parts.{fieldsOf}
+use Rattle.lines.specs.Pieces.{fieldsOf}
 use Rattle.lines.specs.Fields.{hasForm, cellsOf, seriesOf}
-use Rattle.reading.specs.Reading.{cell, headForm, pairForm, pairFrom}
-use Rattle.history.specs.History.{Call, openLots, closeLots, pairUnits, splitUnits, turnDay}
+use Rattle.book_lines.specs.Lines.{cell, headForm, pairForm, pairFrom}
+use Rattle.history.specs.History.{BookCall, openLots, closeLots, pairUnits, splitUnits, turnDay}
 use Rattle.call_lines.specs.declared.Name.{Name}
 use Rattle.call_lines.specs.declared.Name.the-variants as name
 
 -- What a line says: a make, another call, or nothing, where it has not the form.
 pub data Line : Type 0 where
   make : ℕ → ℕ → ℕ → Line
-  call : Call → Line
+  call : BookCall → Line
   formless : Line
 
 -- which call a name is
@@ -39,14 +39,14 @@ nameIn f =
 -- The forms of the fields behind it. `account identity day` is written as in an A line, `kind SERIES SERIES r1 r2 units` as in an M line.
 
 -- `SERIES L|S lots`
-unfoldable pub lotsForm : List Kind
+unfoldable pub lotsForm : List Asked
 lotsForm = Code ∷ Date ∷ Mark ∷ Number ∷ Mark ∷ Number ∷ []
 
 -- `day`
-unfoldable pub dayForm : List Kind
+unfoldable pub dayForm : List Asked
 dayForm = Date ∷ []
 
-unfoldable pub formOf : Name → List Kind
+unfoldable pub formOf : Name → List Asked
 formOf name.Nothing = []
 formOf name.Make = headForm
 formOf name.Open = lotsForm
@@ -61,10 +61,10 @@ abbrev pub figure : List Cell → ℕ → ℕ
 figure cs i = cell cs i .number
 
 -- L or S; a line with another mark there has not the form
-unfoldable pub sided : ℕ → (Side → Call) → Line
+unfoldable pub sided : ℕ → (Side → BookCall) → Line
 sided mark of = pick (eqb mark (byte "L")) (call (of Long)) (pick (eqb mark (byte "S")) (call (of Short)) formless)
 
-unfoldable pub lotsIn : (Series → Side → ℕ → Call) → List Cell → Line
+unfoldable pub lotsIn : (Series → Side → ℕ → BookCall) → List Cell → Line
 lotsIn of cs = sided (figure cs 4) (λ (d : Side). of (seriesOf (cell cs 0) (cell cs 1) (cell cs 2) (cell cs 3)) d (figure cs 5))
 
 unfoldable pub saidBy : Name → List Cell → Line
@@ -84,5 +84,5 @@ lineFrom [] = formless
 lineFrom (f ∷ fs) = lineBy (nameIn f) fs
 
 -- what the bytes before an LF say
-unfoldable pub lineOf : List ℕ → Line
-lineOf line = lineFrom (fieldsOf line)
+unfoldable pub callLine : List ℕ → Line
+callLine line = lineFrom (fieldsOf line)

@@ -11,9 +11,9 @@ use Rattle.rows.specs.declared.Book.{Book}
 use Rattle.calls.specs.declared.Outcome.{Outcome}
 use Rattle.calls.specs.Calls.{outcome, makeAnswer}
 use Rattle.history.specs.History.{step}
-use Rattle.lines.specs.Parts.{lf, Parts, one, more, splitOn}
+use Rattle.lines.specs.Pieces.{lf, Pieces, one, more, splitOn}
 use Rattle.call_lines.specs.declared.Worked.{Worked}
-use Rattle.call_lines.specs.Lines.{Line, make, call, formless, lineOf}
+use Rattle.call_lines.specs.Lines.{Line, make, call, formless, callLine}
 
 -- A line's answer, `first` where no line stands before it: a line without the form is 1, a make behind another line 3, and neither changes the book; a make in line 1
 -- gives the book that it makes; every other call is answered as the call itself.
@@ -31,10 +31,10 @@ abbrev pub after : Outcome → Answers → Answers
 after o rest = record { book = rest .book; numbers = o .number ∷ rest .numbers }
 
 -- line after line; what stands behind the last LF is a line without its LF
-unfoldable pub answersTo : Bool → Book → Parts → Answers
+unfoldable pub answersTo : Bool → Book → Pieces → Answers
 answersTo first b (one rest) = record { book = b; numbers = pick (eqb (length rest) 0) [] (1 ∷ []) }
 answersTo first b (more line ls) =
-    after (answerTo first b (lineOf line)) (answersTo false (answerTo first b (lineOf line) .book) ls)
+    after (answerTo first b (callLine line)) (answersTo false (answerTo first b (callLine line) .book) ls)
 
 unfoldable pub answersIn : Book → List ℕ → Answers
 answersIn b text = answersTo true b (splitOn lf text)
@@ -52,9 +52,9 @@ isMake (make account identity day) = true
 isMake (call c) = false
 isMake formless = false
 
-abbrev pub madeIn : Parts → Bool
+abbrev pub madeIn : Pieces → Bool
 madeIn (one rest) = false
-madeIn (more line ls) = isMake (lineOf line)
+madeIn (more line ls) = isMake (callLine line)
 
 unfoldable pub makesBook : List ℕ → Bool
 makesBook text = madeIn (splitOn lf text)

@@ -18,12 +18,12 @@ use Rattle.series.specs.declared.Side.the-variants.{Long, Short}
 use Rattle.lists.specs.Places.{full}
 use Rattle.rows.specs.declared.Book.{Book}
 use Rattle.calls.specs.declared.Outcome.{Outcome}
-use Rattle.history.specs.History.{Call}
+use Rattle.history.specs.History.{BookCall}
 use Rattle.lines.specs.declared.Cell.{Cell}
-use Rattle.lines.specs.Parts.{lf, splitOn, nextOf, stopOf}
+use Rattle.lines.specs.Pieces.{lf, splitOn, nextOf, stopOf}
 use Rattle.lines.specs.CutLaws.{next-low, part-more, part-last}
 use Rattle.lines.specs.StopLaws.{lineAt}
-use Rattle.reading.specs.Reading.{headForm}
+use Rattle.book_lines.specs.Lines.{headForm}
 use Rattle.call_lines.specs.declared.Name.{Name}
 use Rattle.call_lines.specs.declared.Name.the-variants as name
 use Rattle.call_lines.specs.declared.MakeLine.{MakeLine}
@@ -139,7 +139,7 @@ named-make name.Pair = false
 named-make name.Split = false
 named-make name.Turn = false
 
-side-call : (mark : ℕ) (of : Side → Call) → isMake (sided mark of) ≡ false
+side-call : (mark : ℕ) (of : Side → BookCall) → isMake (sided mark of) ≡ false
 unfolding sided
 side-call mark of =
     by-test (λ (l : Bool). isMake (pick l (call (of Long)) (pick (eqb mark 83) (call (of Short)) formless)) ≡ false) (eqb mark 76)

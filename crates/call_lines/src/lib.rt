@@ -4,12 +4,13 @@ ghost use Prim.Native.Nat.{_+_, _<_, _≤_, min};
 ghost use lib.Dec.{eqb, ltb};
 ghost use lib.ListN.{getD, length};
 ghost use Rattle.laws.specs.Truth.{pick};
-ghost use Rattle.lines.specs.Parts.{lf, nextOf};
+ghost use Rattle.lines.specs.Pieces.{lf, nextOf};
 ghost use Rattle.calls.specs.Calls.{outcome, makeAnswer, openAnswer, closeAnswer, pairAnswer, splitAnswer, turnAnswer};
 ghost use Rattle.call_lines.specs.Lines.{nameIn};
 ghost use Rattle.call_lines.specs.Work.{answerTo, worked, makesBook};
 ghost use Rattle.call_lines.specs.Facts.{isSide, sideOf, makeBehind, lotsBehind, unitsBehind, dayBehind, saidAt};
 use calls::Outcome;
+use lines::Asked;
 use rows::Book;
 use rows::Pair;
 use series::Series;
@@ -112,9 +113,9 @@ fn side_of(mark: u32) -> Side
 fn make_behind(t: &[u8], at: usize) -> MakeLine
     ensures { λ r. ⌜ r ≡ makeBehind (now (t .entry)) at ⌝ }
 {
-    let account = lines::account_behind(t, at);
-    let identity = lines::mark_behind(t, account.stop);
-    let day = lines::date_behind(t, identity.stop);
+    let account = lines::field_behind(Asked::Account, t, at);
+    let identity = lines::field_behind(Asked::Mark, t, account.stop);
+    let day = lines::field_behind(Asked::Date, t, identity.stop);
     let a = account.cell;
     let i = identity.cell;
     let d = day.cell;
@@ -132,8 +133,8 @@ fn lots_behind(t: &[u8], at: usize) -> LotsLine
     ensures { λ r. ⌜ r ≡ lotsBehind (now (t .entry)) at ⌝ }
 {
     let w = lines::series_behind(t, at);
-    let mark = lines::mark_behind(t, w.stop);
-    let lots = lines::number_behind(t, mark.stop);
+    let mark = lines::field_behind(Asked::Mark, t, w.stop);
+    let lots = lines::field_behind(Asked::Number, t, mark.stop);
     let m = mark.cell;
     let n = lots.cell;
     let series = w.series;
@@ -151,12 +152,12 @@ fn lots_behind(t: &[u8], at: usize) -> LotsLine
 fn units_behind(t: &[u8], at: usize) -> UnitsLine
     ensures { λ r. ⌜ r ≡ unitsBehind (now (t .entry)) at ⌝ }
 {
-    let kind = lines::number_behind(t, at);
+    let kind = lines::field_behind(Asked::Number, t, at);
     let v = lines::series_behind(t, kind.stop);
     let w = lines::series_behind(t, v.stop);
-    let r1 = lines::number_behind(t, w.stop);
-    let r2 = lines::number_behind(t, r1.stop);
-    let units = lines::number_behind(t, r2.stop);
+    let r1 = lines::field_behind(Asked::Number, t, w.stop);
+    let r2 = lines::field_behind(Asked::Number, t, r1.stop);
+    let units = lines::field_behind(Asked::Number, t, r2.stop);
     let k = kind.cell;
     let x = r1.cell;
     let y = r2.cell;
@@ -182,7 +183,7 @@ fn units_behind(t: &[u8], at: usize) -> UnitsLine
 fn day_behind(t: &[u8], at: usize) -> DayLine
     ensures { λ r. ⌜ r ≡ dayBehind (now (t .entry)) at ⌝ }
 {
-    let day = lines::date_behind(t, at);
+    let day = lines::field_behind(Asked::Date, t, at);
     let d = day.cell;
     DayLine {
         right: laws::and(d.right, ends_at(t, day.stop)),

@@ -10,7 +10,7 @@ use Rattle.laws.specs.Truth.{pick, both}
 use Rattle.laws.specs.TruthLaws.{both-true, by-test}
 use Rattle.laws.specs.Search.{everyLine, firstWhere}
 use Rattle.laws.specs.Checks.{Check, allPass, numbered}
-use Rattle.laws.specs.CheckLaws.{accepted, none-fails}
+use Rattle.laws.specs.CheckLaws.{no-failure, none-fails}
 use Rattle.lists.specs.Sorted.{sumOf, ascending, look}
 use Rattle.dates.specs.Calendar.{isDay, daysIn, leapYear, shortMonth}
 use Rattle.series.specs.declared.Series.{Series}
@@ -36,7 +36,7 @@ use Rattle.calls.specs.TieLaws.{pair-sound, split-sound}
 module _ (cs : List Check) (b new : Book) where
   pub accepts : numbered cs ≡ true → answered cs b new .number ≡ 0 → allPass cs ≡ true
   unfolding answered
-  accepts n e = accepted cs n e
+  accepts n e = no-failure cs n e
 
   pub accepts-back : allPass cs ≡ true → (answered cs b new .number ≡ 0) × (answered cs b new .book ≡ new)
   unfolding answered

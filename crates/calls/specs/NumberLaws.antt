@@ -11,7 +11,7 @@ use Rattle.laws.specs.Truth.{pick, both, either}
 use Rattle.laws.specs.TruthLaws.{by-test, failed, passed}
 use Rattle.laws.specs.Search.{everyLine}
 use Rattle.laws.specs.Checks.{Check, firstFailing, allPass, numbered, orElse}
-use Rattle.laws.specs.CheckLaws.{first-of-two, accepted, none-fails}
+use Rattle.laws.specs.CheckLaws.{first-of-two, no-failure, none-fails}
 use Rattle.lists.specs.Places.{full}
 use Rattle.lists.specs.PlaceLaws.{take-full}
 use Rattle.lists.specs.Sorted.{stands, kept}
@@ -53,11 +53,11 @@ pub accepted-with : (cs : List Check) (b new : Book) (n : ℕ) {r : Book} → nu
 unfolding answered
 accepted-with cs b new n k e z is =
     let f : firstFailing cs ≡ 0 = sym e ∙ z in
-    rw (accepted cs k f, f, is)
+    rw (no-failure cs k f, f, is)
 
 -- no check fails where the number is 0
 pub passes-all : (cs : List Check) (n : ℕ) → numbered cs ≡ true → n ≡ firstFailing cs → n ≡ 0 → allPass cs ≡ true
-passes-all cs n k e z = accepted cs k (sym e ∙ z)
+passes-all cs n k e z = no-failure cs k (sym e ∙ z)
 
 -- The book's own check first, then those of a series, then those of a pair.
 series-then : (s : Series) (ds : List Check) → firstFailing (seriesChecks s ++ ds) ≡ orElse (seriesNumber s) (firstFailing ds)

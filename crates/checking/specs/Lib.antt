@@ -1,13 +1,8 @@
-pub mod Lines
 pub mod Reading
-pub mod Facts
-pub mod NumberLaws
 pub mod Next
 pub mod GroupLaws
 pub mod RowLaws
 pub mod SheetLaws
 pub mod TurnLaws
 pub mod StepLaws
-pub mod SameLaws
-pub mod HeadLaws
 pub mod QuoteLaws

@@ -15,7 +15,7 @@ use Rattle.levels.specs.Ranges.{clearingFits}
 use Rattle.amounts.specs.declared.IndexLine.{IndexLine}
 use Rattle.amounts.specs.declared.StockLine.{StockLine}
 use Rattle.amounts.specs.Lines.{indexFits, stockFits}
-use Rattle.lines.specs.Parts.{lf, Parts, one, more, splitOn}
+use Rattle.lines.specs.Pieces.{lf, Pieces, one, more, splitOn}
 use Rattle.sheets.specs.declared.Found.{Found}
 use Rattle.sheets.specs.declared.FutureRow.{FutureRow}
 use Rattle.sheets.specs.declared.OptionRow.{OptionRow}
@@ -23,7 +23,7 @@ use Rattle.sheets.specs.declared.StockRow.{StockRow}
 use Rattle.sheets.specs.declared.PriceRow.{PriceRow}
 use Rattle.sheets.specs.declared.Sheet.{Sheet}
 use Rattle.sheets.specs.Rows.{futureCodes, optionCodes, twoCapitals}
-use Rattle.checking.specs.Lines.{Line, lineOf, rank, among, ownChecks, lineChecks}
+use Rattle.sheet_lines.specs.Lines.{Line, sheetLine, rank, among, ownChecks, lineChecks}
 
 -- Lines that may stand in a sheet: each passes its own checks, and they are in order.
 pub record Good (ls : List Line) : Type 0 where
@@ -111,15 +111,15 @@ withPrices sheet prices quoted =
     }
 
 -- A text whose lines all pass: each behind those before it, at most 1,024 of them, each with its LF.
-unfoldable pub wellLines : List Line → Parts → Bool
+unfoldable pub wellLines : List Line → Pieces → Bool
 wellLines before (one rest) = eqb (length rest) 0
 wellLines before (more line ls) =
-    both (ltb (length before) 1024) (both (allPass (lineChecks before (lineOf line))) (wellLines (before ++ (lineOf line ∷ [])) ls))
+    both (ltb (length before) 1024) (both (allPass (lineChecks before (sheetLine line))) (wellLines (before ++ (sheetLine line ∷ [])) ls))
 
 unfoldable pub wellText : List ℕ → Bool
 wellText text = both (leb (length text) 65536) (both (not (eqb (length text) 0)) (wellLines [] (splitOn lf text)))
 
 -- what the lines of a text say
-unfoldable pub linesIn : Parts → List Line
+unfoldable pub linesIn : Pieces → List Line
 linesIn (one rest) = []
-linesIn (more line ls) = lineOf line ∷ linesIn ls
+linesIn (more line ls) = sheetLine line ∷ linesIn ls

@@ -7,7 +7,7 @@ use lib.ListN.{length}
 use Rattle.laws.specs.Truth.{pick}
 use Rattle.laws.specs.Search.{gathered}
 use Rattle.laws.specs.Checks.{firstFailing, allPass}
-use Rattle.lines.specs.Parts.{lf, Parts, one, more, splitOn}
+use Rattle.lines.specs.Pieces.{lf, Pieces, one, more, splitOn}
 use Rattle.sheets.specs.declared.FutureRow.{FutureRow}
 use Rattle.sheets.specs.declared.OptionRow.{OptionRow}
 use Rattle.sheets.specs.declared.StockRow.{StockRow}
@@ -16,7 +16,7 @@ use Rattle.sheets.specs.declared.Sheet.{Sheet}
 use Rattle.sheets.specs.Rows.{Rows}
 use Rattle.sheets.specs.Sheet.{laidOut}
 use Rattle.checking.specs.declared.Verdict.{Verdict}
-use Rattle.checking.specs.Lines.{Line, head, future, option, stock, price, formless, lineOf, lineChecks}
+use Rattle.sheet_lines.specs.Lines.{Line, head, future, option, stock, price, formless, sheetLine, lineChecks}
 
 -- The rows that lines say, group by group.
 
@@ -75,17 +75,17 @@ pub record Judged : Type 0 where
 unfoldable pub refusedAt : ℕ → ℕ → Judged
 refusedAt number line = record { number = number; line = line; lines = [] }
 
-unfoldable pub accepted : List Line → Judged
-accepted ls = record { number = 0; line = 0; lines = ls }
+unfoldable pub judgedAs : List Line → Judged
+judgedAs ls = record { number = 0; line = 0; lines = ls }
 
 -- the lines behind those before; what stands behind the last LF is a line without its LF
-unfoldable pub judgeLines : List Line → Parts → Judged
+unfoldable pub judgeLines : List Line → Pieces → Judged
 judgeLines before (one rest) =
-    pick (eqb (length rest) 0) (accepted before) (refusedAt (pick (ltb (length before) 1024) 1 2) (suc (length before)))
+    pick (eqb (length rest) 0) (judgedAs before) (refusedAt (pick (ltb (length before) 1024) 1 2) (suc (length before)))
 judgeLines before (more line ls) =
     pick (ltb (length before) 1024)
-    (pick (allPass (lineChecks before (lineOf line))) (judgeLines (before ++ (lineOf line ∷ [])) ls)
-    (refusedAt (firstFailing (lineChecks before (lineOf line))) (suc (length before))))
+    (pick (allPass (lineChecks before (sheetLine line))) (judgeLines (before ++ (sheetLine line ∷ [])) ls)
+    (refusedAt (firstFailing (lineChecks before (sheetLine line))) (suc (length before))))
     (refusedAt 2 (suc (length before)))
 
 -- "Text: too long by bytes, line 0; then by line"; "empty text (line 0)"
@@ -97,8 +97,8 @@ judged text =
 unfoldable pub sheetOf : Judged → Sheet
 sheetOf j = laidOut (j .number) (j .line) (rowsOf (j .lines))
 
-unfoldable pub readText : List ℕ → Sheet
-readText text = sheetOf (judged text)
+unfoldable pub readSheet : List ℕ → Sheet
+readSheet text = sheetOf (judged text)
 
 unfoldable pub checkText : List ℕ → Verdict
 checkText text = record { number = judged text .number; line = judged text .line }

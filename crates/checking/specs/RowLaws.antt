@@ -39,7 +39,7 @@ use Rattle.sheets.specs.declared.Sheet.{Sheet}
 use Rattle.sheets.specs.Rows.{noRows, futureCodes, optionCodes, twoCapitals, found, nothing, noIndex, noStock, noPrice, clearingIn, indexIn, stockIn}
 use Rattle.sheets.specs.Sheet.{futurePlace, optionPlace, stockPlace, stockAt, laidOut}
 use Rattle.sheets.specs.TableLaws.{futures-differ, options-differ, table-set, found-last, found-others, tabled-set, place-below, stock-at-place}
-use Rattle.checking.specs.Lines.{Line, head, future, option, stock, price, formless, rank, among, isQuoted, ownChecks, isHead, checksBy, lineChecks}
+use Rattle.sheet_lines.specs.Lines.{Line, head, future, option, stock, price, formless, rank, among, isQuoted, ownChecks, isHead, checksBy, lineChecks}
 use Rattle.checking.specs.Reading.{futureRow, optionRow, stockRow, priceRow, dayOf, rowsOf}
 use Rattle.checking.specs.Next.{Good, goodFuture, goodOption, goodStock, goodPrice, withDay, withFutures, withOptions, withStocks, withPrices}
 use Rattle.checking.specs.GroupLaws.{gathered-more, gathered-every, Gives, none, row, gathered-fewer, gathered-ascends, row-new}

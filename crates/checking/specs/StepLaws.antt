@@ -13,14 +13,15 @@ use Rattle.laws.specs.declared.Order.the-variants.{Less}
 use Rattle.laws.specs.Truth.{pick, either}
 use Rattle.laws.specs.TruthLaws.{false-unless}
 use Rattle.laws.specs.Checks.{firstFailing, allPass}
-use Rattle.laws.specs.CheckLaws.{none-fails, accepted as no-failure}
+use Rattle.laws.specs.CheckLaws.{none-fails, no-failure}
 use Rattle.laws.specs.Order.{isLess, bytesOrder}
 use Rattle.lists.specs.Sorted.{ascending, ascendingFrom}
 use Rattle.lists.specs.LastLaws.{after-last}
-use Rattle.lines.specs.declared.Kind.the-variants.{Nothing}
+use Rattle.lines.specs.declared.Asked.{Asked}
+use Rattle.lines.specs.declared.Asked.the-variants.{Nothing}
 use Rattle.lines.specs.declared.Cell.{Cell}
 use Rattle.lines.specs.declared.Field.{Field}
-use Rattle.lines.specs.Parts.{tab, lf, more, splitOn, nextOf, stopOf}
+use Rattle.lines.specs.Pieces.{tab, lf, more, splitOn, nextOf, stopOf}
 use Rattle.lines.specs.Fields.{fieldAt}
 use Rattle.lines.specs.CutLaws.{next-low, part-more, part-last}
 use Rattle.lines.specs.StopLaws.{stop-high, stop-within, lineAt}
@@ -34,12 +35,12 @@ use Rattle.sheets.specs.declared.Sheet.{Sheet}
 use Rattle.sheets.specs.Rows.{found, noRows}
 use Rattle.sheets.specs.Sheet.{futurePlace, optionPlace, stockPlace, laidOut}
 use Rattle.amounts.specs.declared.IndexLine.{IndexLine}
-use Rattle.checking.specs.Lines.{Line, head, future, option, stock, price, formless, figure, futureFrom, optionFrom, stockFrom, priceFrom, letterIn, formOf, said, lineOf, rank, ownChecks, checksBy, lineChecks}
-use Rattle.checking.specs.Reading.{rowsOf, refusedAt, accepted, judgeLines, judged, sheetOf, readText}
-use Rattle.checking.specs.Facts.{kindTable, placeFor, fieldsFor, numberFor}
+use Rattle.sheet_lines.specs.Lines.{Line, head, future, option, stock, price, formless, figure, futureFrom, optionFrom, stockFrom, priceFrom, letterIn, formOf, said, sheetLine, rank, ownChecks, checksBy, lineChecks}
+use Rattle.checking.specs.Reading.{rowsOf, refusedAt, judgedAs, judgeLines, judged, sheetOf, readSheet}
+use Rattle.sheet_lines.specs.Facts.{askedTable, placeFor, fieldsFor, numberFor}
 use Rattle.checking.specs.Next.{Good, withDay, withFutures, withOptions, withStocks, withPrices}
 use Rattle.checking.specs.TurnLaws.{Letter, is-D, is-F, is-O, is-S, is-Q, form-few, form-at, line-formless, line-wrong, line-right, letter-known}
-use Rattle.checking.specs.NumberLaws.{line-numbered}
+use Rattle.sheet_lines.specs.NumberLaws.{line-numbered}
 use Rattle.checking.specs.RowLaws.{no-lines, none-good, more-good, head-laid, future-laid, option-laid, stocks-room, stock-laid, price-laid, quoted-room}
 
 -- what comes of the text t
@@ -99,7 +100,7 @@ module _ {t : List ℕ} {sheet : Sheet} {last : ℕ} {before : List Cell} {line 
 
   -- The text has ended.
   pub lines-end : at ≡ length t → sheet ≡ answerOf t
-  unfolding judgeLines splitOn accepted sheetOf
+  unfolding judgeLines splitOn judgedAs sheetOf
   lines-end e = let le : length t ≤ at = omega arith in a .along .is ∙ rw (drop-of-length-le t le) at (a .goes)
 
   module _ (some : at ≡ length t → ⊥) where
@@ -153,17 +154,17 @@ module _ {t : List ℕ} {sheet : Sheet} {last : ℕ} {before : List Cell} {line 
   pub line-less : length t - (end + 1) < length t - at
   line-less = let begins = a .begins in let low = a .low in omega arith
 
-  judged-row : (x : Line) → lineOf row ≡ x → sheetOf (pick (allPass (lineChecks (a .lines) x)) (judgeLines (a .lines ++ (x ∷ [])) (splitOn lf (drop (end + 1) t))) (refusedAt (firstFailing (lineChecks (a .lines) x)) line)) ≡ answerOf t
+  judged-row : (x : Line) → sheetLine row ≡ x → sheetOf (pick (allPass (lineChecks (a .lines) x)) (judgeLines (a .lines ++ (x ∷ [])) (splitOn lf (drop (end + 1) t))) (refusedAt (firstFailing (lineChecks (a .lines) x)) line)) ≡ answerOf t
   unfolding judgeLines
   judged-row x says = let place = a .count in rw (lt-ltb (length (a .lines)) 1024 (a .room), says, ← place) at (a .goes)
 
   -- A row whose checks fail.
-  row-refused : {number : ℕ} (x : Line) → lineOf row ≡ x → firstFailing (lineChecks (a .lines) x) ≡ number → (number ≡ 0 → ⊥) → laidOut number line noRows ≡ answerOf t
+  row-refused : {number : ℕ} (x : Line) → sheetLine row ≡ x → firstFailing (lineChecks (a .lines) x) ≡ number → (number ≡ 0 → ⊥) → laidOut number line noRows ≡ answerOf t
   row-refused {number} x says e n =
       let fails = false-unless (allPass (lineChecks (a .lines) x)) (λ p. n (sym e ∙ none-fails _ p)) in
       refusal number line ∙ rw (fails, e) at (judged-row x says)
 
-  row-formless : lineOf row ≡ formless → laidOut 1 line noRows ≡ answerOf t
+  row-formless : sheetLine row ≡ formless → laidOut 1 line noRows ≡ answerOf t
   unfolding lineChecks checksBy ownChecks firstFailing
   row-formless says = row-refused formless says (either-way (eqb (length (a .lines)) 0)) (λ z. omega arith)
     where
@@ -184,7 +185,7 @@ said-ranked cs (is-Q e) = rw e
 pub record SaidRow (t : List ℕ) (sheet : Sheet) (last : ℕ) (before : List Cell) (line at end letter : ℕ) (cells : List Cell) (number : ℕ) : Type 0 where
   pub row : List ℕ
   pub at-row : AtRow t sheet last before line at end row
-  pub says : lineOf row ≡ said letter cells
+  pub says : sheetLine row ≡ said letter cells
   pub known : Letter letter
   pub number-is : number ≡ numberFor letter cells last before
 
@@ -302,7 +303,7 @@ module _ {t : List ℕ} {sheet : Sheet} {last : ℕ} {before : List Cell} {line 
       the-last (is-Q l) = l
 
 -- A line that has not the form.
-line-formless-at : {t : List ℕ} {sheet : Sheet} {last : ℕ} {before : List Cell} {line at : ℕ} → InText t sheet last before line at → lineOf (lineAt t at) ≡ formless → laidOut 1 line noRows ≡ answerOf t
+line-formless-at : {t : List ℕ} {sheet : Sheet} {last : ℕ} {before : List Cell} {line at : ℕ} → InText t sheet last before line at → sheetLine (lineAt t at) ≡ formless → laidOut 1 line noRows ≡ answerOf t
 line-formless-at {t} {line = line} {at = at} a says = go (decLt (nextOf t at lf) (length t))
   where
     go : Dec (nextOf t at lf < length t) → laidOut 1 line noRows ≡ answerOf t
@@ -326,29 +327,29 @@ module _ {t : List ℕ} {sheet : Sheet} {last : ℕ} {before : List Cell} {line 
   row-begins n cells l long = let h = letter-high in record { in-text = line-opens a some within; in-line = line-begins t at cells is (omega arith) l long }
 
 module _ {t : List ℕ} {sheet : Sheet} {last : ℕ} {before : List Cell} {line at first letter : ℕ} {cells : List Cell} {k stop : ℕ} (a : InRow t sheet last before line at first letter cells k stop) where
-  -- The kind of the next field.
+  -- What is asked of the next field.
   module _ {place : ℕ} (place-is : place ≡ placeFor letter) where
-    kind-at : (place + k < 34) × (getD kindTable (place + k) Nothing ≡ getD (formOf letter) k Nothing)
-    kind-at = rw place-is (form-at letter k (a .in-line .fields .fields .few))
-
     pub kind-fits : place + k < 34
-    kind-fits = kind-at .0
+    kind-fits = rw place-is (form-at letter k (a .in-line .fields .fields .few) .0)
 
-    module _ (is-tab : getD t stop 0 ≡ tab) {f : Field} (is : f ≡ fieldAt (getD kindTable (place + k) Nothing) t (stop + 1)) where
+    module _ {table : List Asked} (table-is : table ≡ askedTable) (is-tab : getD t stop 0 ≡ tab) {f : Field} (is : f ≡ fieldAt (getD table (place + k) Nothing) t (stop + 1)) where
+      kind-is : getD table (place + k) Nothing ≡ getD (formOf letter) k Nothing
+      kind-is = rw (table-is, place-is) (form-at letter k (a .in-line .fields .fields .few) .1)
+
       -- A field without its form.
       pub field-refused : not (f .cell .right) ≡ true → laidOut 1 line noRows ≡ answerOf t
       field-refused e =
-          ⊎-elim (line-unended (a .in-text)) (λ bad. line-formless-at (a .in-text) (line-formless (a .in-line .fields) bad)) (line-bad (a .in-line) is-tab (kind-at .1) is e)
+          ⊎-elim (line-unended (a .in-text)) (λ bad. line-formless-at (a .in-text) (line-formless (a .in-line .fields) bad)) (line-bad (a .in-line) is-tab kind-is is e)
 
       module _ (e : not (f .cell .right) ≡ false) where
         pub cell-fits : k < 12
-        cell-fits = line-room (a .in-line) is-tab (kind-at .1) is (form-few letter) e
+        cell-fits = line-room (a .in-line) is-tab kind-is is (form-few letter) e
 
         pub field-less : length t - f .stop < length t - stop
-        field-less = stop-less (a .in-line) is-tab (kind-at .1) is e
+        field-less = stop-less (a .in-line) is-tab kind-is is e
 
         pub in-row-on : InRow t sheet last before line at first letter (set cells k (f .cell)) (k + 1) (f .stop)
-        in-row-on = record { in-text = a .in-text; in-line = line-on (a .in-line) is-tab (kind-at .1) is (form-few letter) e }
+        in-row-on = record { in-text = a .in-text; in-line = line-on (a .in-line) is-tab kind-is is (form-few letter) e }
 
   -- Behind the last field.
   module _ (no-tab : getD t stop 0 ≡ tab → ⊥) {fields : ℕ} (fields-is : fields ≡ fieldsFor letter) where
@@ -368,14 +369,14 @@ module _ {t : List ℕ} {sheet : Sheet} {last : ℕ} {before : List Cell} {line 
 
 -- The whole text: too long, empty, or read line by line.
 module _ (t : List ℕ) where
-  pub text-long : 65536 < length t → laidOut 2 0 noRows ≡ readText t
-  unfolding readText judged
+  pub text-long : 65536 < length t → laidOut 2 0 noRows ≡ readSheet t
+  unfolding readSheet judged
   text-long h = refusal 2 0 ∙ rw (lt-leb (length t) 65536 h)
 
-  pub text-empty : length t ≤ 65536 → length t ≡ 0 → laidOut 1 0 noRows ≡ readText t
-  unfolding readText judged
+  pub text-empty : length t ≤ 65536 → length t ≡ 0 → laidOut 1 0 noRows ≡ readSheet t
+  unfolding readSheet judged
   text-empty le e = refusal 1 0 ∙ rw (le-leb (length t) 65536 le, eq-eqb (length t) 0 e)
 
-  pub text-read : length t ≤ 65536 → (length t ≡ 0 → ⊥) → answerOf t ≡ readText t
-  unfolding readText judged
+  pub text-read : length t ≤ 65536 → (length t ≡ 0 → ⊥) → answerOf t ≡ readSheet t
+  unfolding readSheet judged
   text-read le n = rw (le-leb (length t) 65536 le, ne-eqb (length t) 0 n)

@@ -10,14 +10,14 @@ use lib.ListN.{getD, length, take}
 use lib.Seq.{getD-take, take-all}
 use Rattle.laws.specs.Truth.{pick}
 use Rattle.laws.specs.TruthLaws.{by-test}
-use Rattle.lines.specs.declared.Kind.{Kind}
-use Rattle.lines.specs.declared.Kind.the-variants.{Nothing}
+use Rattle.lines.specs.declared.Asked.{Asked}
+use Rattle.lines.specs.declared.Asked.the-variants.{Nothing}
 use Rattle.lines.specs.declared.Cell.{Cell}
 use Rattle.lines.specs.Fields.{hasForm, cellsOf}
 use Rattle.lines.specs.CutLaws.{fieldsBehind}
 use Rattle.lines.specs.LoopLaws.{InFields, row-fields, row-wrong, row-done, in-table}
-use Rattle.checking.specs.Lines.{formless, headForm, futureForm, optionForm, stockForm, priceForm, cell, futureFrom, optionFrom, stockFrom, priceFrom, byLetter, letterIn, formOf, said, lineBy, lineFrom, lineOf}
-use Rattle.checking.specs.Facts.{kindTable, placeFor, fieldsFor}
+use Rattle.sheet_lines.specs.Lines.{formless, headForm, futureForm, optionForm, stockForm, priceForm, cell, futureFrom, optionFrom, stockFrom, priceFrom, byLetter, letterIn, formOf, said, lineBy, lineFrom, sheetLine}
+use Rattle.sheet_lines.specs.Facts.{askedTable, placeFor, fieldsFor}
 
 -- One of the five letters of a sheet.
 pub data Letter (letter : ℕ) : Type 0 where
@@ -65,21 +65,21 @@ form-few letter =
     (λ known. let h = known-few known in let e = fields-are known in omega arith)
     (λ e s f p. rw e (omega arith))
 
--- In the table the kinds of a letter's form stand from its place on, and Nothing behind them.
-abbrev Found : ℕ → ℕ → List Kind → Type 0
-Found place k form = (place + k < 34) × (getD kindTable (place + k) Nothing ≡ getD form k Nothing)
+-- In the table what a letter's form asks stands from its place on, and Nothing behind it.
+abbrev Found : ℕ → ℕ → List Asked → Type 0
+Found place k form = (place + k < 34) × (getD askedTable (place + k) Nothing ≡ getD form k Nothing)
 
 known-at : {letter : ℕ} (k : ℕ) → Letter letter → k ≤ length (formOf letter) → Found (placeFor letter) k (formOf letter)
-unfolding formOf placeFor kindTable headForm futureForm optionForm stockForm priceForm
-known-at k (is-D e) h = let few : k ≤ length headForm = rw e at h in rw e (omega arith, in-table Nothing kindTable headForm _ 0 refl k few)
-known-at k (is-F e) h = let few : k ≤ length futureForm = rw e at h in rw e (omega arith, in-table Nothing kindTable futureForm _ 2 refl k few)
-known-at k (is-O e) h = let few : k ≤ length optionForm = rw e at h in rw e (omega arith, in-table Nothing kindTable optionForm _ 5 refl k few)
-known-at k (is-S e) h = let few : k ≤ length stockForm = rw e at h in rw e (omega arith, in-table Nothing kindTable stockForm _ 18 refl k few)
-known-at k (is-Q e) h = let few : k ≤ length priceForm = rw e at h in rw e (omega arith, in-table Nothing kindTable priceForm _ 28 refl k few)
+unfolding formOf placeFor askedTable headForm futureForm optionForm stockForm priceForm
+known-at k (is-D e) h = let few : k ≤ length headForm = rw e at h in rw e (omega arith, in-table Nothing askedTable headForm _ 0 refl k few)
+known-at k (is-F e) h = let few : k ≤ length futureForm = rw e at h in rw e (omega arith, in-table Nothing askedTable futureForm _ 2 refl k few)
+known-at k (is-O e) h = let few : k ≤ length optionForm = rw e at h in rw e (omega arith, in-table Nothing askedTable optionForm _ 5 refl k few)
+known-at k (is-S e) h = let few : k ≤ length stockForm = rw e at h in rw e (omega arith, in-table Nothing askedTable stockForm _ 18 refl k few)
+known-at k (is-Q e) h = let few : k ≤ length priceForm = rw e at h in rw e (omega arith, in-table Nothing askedTable priceForm _ 28 refl k few)
 
 none-at : (k : ℕ) → k ≤ 0 → Found 33 k []
-unfolding kindTable headForm futureForm optionForm stockForm priceForm
-none-at k h = (omega arith, in-table Nothing kindTable [] _ 33 refl k h)
+unfolding askedTable headForm futureForm optionForm stockForm priceForm
+none-at k h = (omega arith, in-table Nothing askedTable [] _ 33 refl k h)
 
 pub form-at : (letter k : ℕ) → k ≤ length (formOf letter) → Found (placeFor letter) k (formOf letter)
 form-at letter k h =
@@ -101,20 +101,20 @@ said-taken cs (is-Q e) long = rw (e, taken cs 5 0 (omega arith), taken cs 5 1 (o
 
 -- What a line says, once its letter and its fields are read.
 module _ {row : List ℕ} {first letter : ℕ} {cells : List Cell} {k stop : ℕ} (a : InFields letterIn formOf 12 row first letter cells k stop) where
-  line-is : lineOf row ≡ lineBy letter (fieldsBehind row first)
-  unfolding lineOf lineFrom
+  line-is : sheetLine row ≡ lineBy letter (fieldsBehind row first)
+  unfolding sheetLine lineFrom
   line-is = rw (row-fields row (a .first-is)) (ap (λ (l : ℕ). lineBy l (fieldsBehind row first)) (sym (a .letter-is)))
 
-  pub line-formless : hasForm (formOf letter) (fieldsBehind row first) ≡ false → lineOf row ≡ formless
+  pub line-formless : hasForm (formOf letter) (fieldsBehind row first) ≡ false → sheetLine row ≡ formless
   unfolding lineBy
   line-formless e = line-is ∙ rw e
 
   module _ (done : length row ≤ stop) where
     -- Too few fields, or no letter of a sheet.
-    pub line-wrong : (k ≡ fieldsFor letter → ⊥) → lineOf row ≡ formless
+    pub line-wrong : (k ≡ fieldsFor letter → ⊥) → sheetLine row ≡ formless
     unfolding lineBy
     line-wrong n =
-        known-or-not letter (lineOf row ≡ formless)
+        known-or-not letter (sheetLine row ≡ formless)
         (λ known. line-formless (row-wrong a done (λ e. n (e ∙ sym (fields-are known)))))
         (λ e s f p. line-is ∙ rw (s (cellsOf (formOf letter) (fieldsBehind row first))) (never (hasForm (formOf letter) (fieldsBehind row first))))
       where
@@ -128,7 +128,7 @@ module _ {row : List ℕ} {first letter : ℕ} {cells : List Cell} {k stop : ℕ
         known-or-not letter (Letter letter) (λ known. known)
         (λ form s f p. let few = a .fields .few in let l : length (formOf letter) ≡ 0 = rw form in absurd (omega arith))
 
-    pub line-right : k ≡ fieldsFor letter → lineOf row ≡ said letter cells
+    pub line-right : k ≡ fieldsFor letter → sheetLine row ≡ said letter cells
     unfolding lineBy
     line-right e =
         let known = letter-known e in

@@ -102,33 +102,33 @@ nothing-stands = refl
 unfoldable pub markOf : List ℕ → ℕ
 markOf code = (getD code 1 0 * 3 + getD code 2 0) % 32
 
-unfoldable pub lineOf : ℕ → Product
-lineOf mark = firstWhere (λ (p : Product). eqb mark (markOf (p .code))) (λ (p : Product). p) (unknown (0 ∷ 0 ∷ 0 ∷ [])) listed
+unfoldable pub productMarked : ℕ → Product
+productMarked mark = firstWhere (λ (p : Product). eqb mark (markOf (p .code))) (λ (p : Product). p) (unknown (0 ∷ 0 ∷ 0 ∷ [])) listed
 
 -- Each of the sixteen is the line of its own mark: no two have the same.
-listed-marked : map (λ (p : Product). lineOf (markOf (p .code))) listed ≡ listed
-unfolding lineOf markOf listed firstWhere
+listed-marked : map (λ (p : Product). productMarked (markOf (p .code))) listed ≡ listed
+unfolding productMarked markOf listed firstWhere
 listed-marked = refl
 
 -- The line that is found for a mark spells a code that stands for it, or no line is found.
-line-stands : (mark : ℕ) → productOf (lineOf mark .code) ≡ lineOf mark
-unfolding lineOf
+line-stands : (mark : ℕ) → productOf (productMarked mark .code) ≡ productMarked mark
+unfolding productMarked
 line-stands mark = found-fixed (λ (p : Product). productOf (p .code)) (λ (p : Product). eqb mark (markOf (p .code))) (unknown (0 ∷ 0 ∷ 0 ∷ [])) nothing-stands listed listed-stand
 
 -- So a code is the line of its mark where that spells it, and unlisted where it does not.
-pub marked-line : (code : List ℕ) {line : Product} → line ≡ lineOf (markOf code) → sameBytes code (line .code) ≡ true → line ≡ productOf code
-marked-line code {line} is e = is ∙ sym (line-stands (markOf code)) ∙ ap productOf (sym (are-same code (lineOf (markOf code) .code) (subst (λ (p : Product). sameBytes code (p .code) ≡ true) is e)))
+pub marked-line : (code : List ℕ) {line : Product} → line ≡ productMarked (markOf code) → sameBytes code (line .code) ≡ true → line ≡ productOf code
+marked-line code {line} is e = is ∙ sym (line-stands (markOf code)) ∙ ap productOf (sym (are-same code (productMarked (markOf code) .code) (subst (λ (p : Product). sameBytes code (p .code) ≡ true) is e)))
 
-pub no-marked-line : (code : List ℕ) {line : Product} → line ≡ lineOf (markOf code) → sameBytes code (line .code) ≡ false → unlisted code ≡ productOf code
+pub no-marked-line : (code : List ℕ) {line : Product} → line ≡ productMarked (markOf code) → sameBytes code (line .code) ≡ false → unlisted code ≡ productOf code
 unfolding productOf
 no-marked-line code {line} is e =
-    sym (none-named (λ (p : Product). lineOf (markOf (p .code))) (λ (p : Product). sameBytes code (p .code)) (λ (p : Product). p) (unlisted code) listed listed-marked
+    sym (none-named (λ (p : Product). productMarked (markOf (p .code))) (λ (p : Product). sameBytes code (p .code)) (λ (p : Product). p) (unlisted code) listed listed-marked
     (λ p own named. clash (own-line p own (are-same code (p .code) named)) e))
   where
-    own-line : (p : Product) → lineOf (markOf (p .code)) ≡ p → code ≡ p .code → sameBytes code (line .code) ≡ true
+    own-line : (p : Product) → productMarked (markOf (p .code)) ≡ p → code ≡ p .code → sameBytes code (line .code) ≡ true
     own-line p own q = rw (is, q, own) (same-self (p .code))
 
 -- A mark that is none of theirs has no line.
-pub no-mark : (mark : ℕ) → (mark ≡ 8 → ⊥) → (mark ≡ 20 → ⊥) → (mark ≡ 13 → ⊥) → (mark ≡ 15 → ⊥) → (mark ≡ 21 → ⊥) → (mark ≡ 18 → ⊥) → (mark ≡ 24 → ⊥) → (mark ≡ 27 → ⊥) → (mark ≡ 16 → ⊥) → (mark ≡ 14 → ⊥) → (mark ≡ 2 → ⊥) → (mark ≡ 28 → ⊥) → (mark ≡ 23 → ⊥) → (mark ≡ 30 → ⊥) → (mark ≡ 1 → ⊥) → (mark ≡ 4 → ⊥) → lineOf mark ≡ unknown (0 ∷ 0 ∷ 0 ∷ [])
-unfolding lineOf markOf listed firstWhere
+pub no-mark : (mark : ℕ) → (mark ≡ 8 → ⊥) → (mark ≡ 20 → ⊥) → (mark ≡ 13 → ⊥) → (mark ≡ 15 → ⊥) → (mark ≡ 21 → ⊥) → (mark ≡ 18 → ⊥) → (mark ≡ 24 → ⊥) → (mark ≡ 27 → ⊥) → (mark ≡ 16 → ⊥) → (mark ≡ 14 → ⊥) → (mark ≡ 2 → ⊥) → (mark ≡ 28 → ⊥) → (mark ≡ 23 → ⊥) → (mark ≡ 30 → ⊥) → (mark ≡ 1 → ⊥) → (mark ≡ 4 → ⊥) → productMarked mark ≡ unknown (0 ∷ 0 ∷ 0 ∷ [])
+unfolding productMarked markOf listed firstWhere
 no-mark mark n0 n1 n2 n3 n4 n5 n6 n7 n8 n9 n10 n11 n12 n13 n14 n15 = rw (ne-eqb mark 8 n0, ne-eqb mark 20 n1, ne-eqb mark 13 n2, ne-eqb mark 15 n3, ne-eqb mark 21 n4, ne-eqb mark 18 n5, ne-eqb mark 24 n6, ne-eqb mark 27 n7, ne-eqb mark 16 n8, ne-eqb mark 14 n9, ne-eqb mark 2 n10, ne-eqb mark 28 n11, ne-eqb mark 23 n12, ne-eqb mark 30 n13, ne-eqb mark 1 n14, ne-eqb mark 4 n15)

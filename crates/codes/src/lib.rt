@@ -4,7 +4,7 @@ ghost use Prim.Native.Nat.{_<_};
 ghost use Rattle.laws.specs.Bytes.{sameBytes};
 ghost use Rattle.laws.specs.Order.{bytesOrder};
 ghost use Rattle.codes.specs.Codes.{productOf, namesStock, unlisted, stock, unknown, capital, known, isFutureClass, isOptionClass, isStockFuture, isStockOption, ownOption};
-ghost use Rattle.codes.specs.CodeLaws.{markOf, lineOf};
+ghost use Rattle.codes.specs.CodeLaws.{markOf, productMarked};
 ghost use Rattle.codes.specs.declared.Class.the-variants.{ListedFuture, ListedOption};
 use laws::Order;
 
@@ -129,8 +129,8 @@ fn mark_of(code: [u8; 3]) -> u32
 }
 
 // The listed line of a mark.
-fn line_of(mark: u32) -> Product
-    ensures { λ r. ⌜ r ≡ lineOf mark ⌝ }
+fn product_marked(mark: u32) -> Product
+    ensures { λ r. ⌜ r ≡ productMarked mark ⌝ }
 {
     match mark {
         8 => future_line(*b"TX\0", *b"TX\0", 1),
@@ -157,7 +157,7 @@ fn line_of(mark: u32) -> Product
 pub fn product_of(code: [u8; 3]) -> Product
     ensures { λ r. ⌜ r ≡ productOf code ⌝ }
 {
-    let line = line_of(mark_of(code));
+    let line = product_marked(mark_of(code));
     let listed = line.code;
     if same_code(code, listed) {
         return line;

@@ -8,9 +8,9 @@ use Rattle.laws.specs.Truth.{pick, either}
 use Rattle.lists.specs.Places.{full}
 use Rattle.printed.specs.Printed.{textOf}
 use Rattle.reading.specs.declared.Answer.{Answer}
-use Rattle.reading.specs.Reading.{readText}
+use Rattle.reading.specs.Reading.{readBook}
 use Rattle.call_lines.specs.Work.{Answers, answersIn, makesBook}
-use Rattle.statement.specs.Statement.{refusalText}
+use Rattle.put.specs.Output.{refusalText}
 use Rattle.desk_text.specs.declared.Desk.{Desk}
 
 -- "accepted" is 0, and nothing is said of it
@@ -32,7 +32,7 @@ readThen a calls =
 
 -- "text too long" is 2, line 0
 unfoldable pub deskText : List ℕ → List ℕ → List ℕ
-deskText book calls = pick (leb (length calls) 65536) (readThen (readText book) calls) (refusalText 2 0)
+deskText book calls = pick (leb (length calls) 65536) (readThen (readBook book) calls) (refusalText 2 0)
 
 -- a text in room for 737,280 bytes, which is enough (DeskLaws)
 unfoldable pub deskOf : List ℕ → Desk

@@ -25,16 +25,16 @@ use Rattle.rules.specs.Rules.{soundBook}
 use Rattle.rules.specs.RuleLaws.{sound-is, sound-back}
 use Rattle.printed.specs.declared.Printed.{Printed}
 use Rattle.printed.specs.Printed.{textOf, printChecks, printAnswer, printExit}
-use Rattle.printed.specs.PrintedLaws.{text-fits, field-fits, last-fits, line-fits}
+use Rattle.printed.specs.PrintedLaws.{text-fits}
 use Rattle.reading.specs.declared.Answer.{Answer}
-use Rattle.reading.specs.Reading.{readText}
+use Rattle.reading.specs.Reading.{readBook}
 use Rattle.trip.specs.TripLaws.{read-sound}
 use Rattle.call_lines.specs.declared.Worked.{Worked}
 use Rattle.call_lines.specs.Work.{answersIn, workedAs, worked, makesBook}
 use Rattle.call_lines.specs.BoundLaws.{numbers-few, numbers-small}
 use Rattle.call_lines.specs.RunLaws.{work-keeps}
-use Rattle.statement.specs.Statement.{refusalText}
-use Rattle.statement.specs.StatementLaws.{refusal-fits, laid-full}
+use Rattle.put.specs.Output.{refusalText}
+use Rattle.put.specs.LineLaws.{field-fits, last-fits, line-fits, refusal-fits, laid-full}
 use Rattle.desk_text.specs.declared.Desk.{Desk}
 use Rattle.desk_text.specs.Desk.{lineAnswer, refusalsFrom, answersText, readThen, deskText, deskOf}
 
@@ -182,9 +182,9 @@ module _ (book calls : List ℕ) where
   unfolding deskText
   calls-long h = rw (lt-leb (length calls) 65536 h)
 
-  module _ (a : Answer) (is : a ≡ readText book) where
+  module _ (a : Answer) (is : a ≡ readBook book) where
     pub read-is-sound : soundBook (a .book) ≡ true
-    read-is-sound = rw is (sound-back (readText book .book) (read-sound book))
+    read-is-sound = rw is (sound-back (readBook book .book) (read-sound book))
 
     module _ (few : length calls ≤ 65536) where
       pub book-read : a .number ≡ 0 → answersText (answersIn (a .book) calls) ≡ deskText book calls
@@ -204,7 +204,7 @@ module _ (book calls : List ℕ) where
   pub desk-fits : length (deskText book calls) ≤ 737280
   unfolding deskText readThen
   desk-fits =
-      let a = readText book in
+      let a = readBook book in
       picked (λ (t : List ℕ). length t ≤ 737280) (leb (length calls) 65536) (readThen a calls) (refusalText 2 0)
       (λ e.
       picked (λ (t : List ℕ). length t ≤ 737280) (either (makesBook calls) (eqb (a .number) 0)) (answersText (answersIn (a .book) calls)) (refusalText (a .number) (a .line))

@@ -23,7 +23,7 @@ fn put_answer(dst: &mut [u8], at: usize, number: u8, line: u32) -> usize
     if number == 0 {
         return at;
     }
-    statement::put_refusal(dst, at, number, line)
+    put::put_refusal(dst, at, number, line)
 }
 
 // What is said of all lines, from line 1 on.
@@ -58,7 +58,7 @@ fn put_desk(dst: &mut [u8], book: &[u8], calls: &[u8]) -> usize
     ensures { λ r. ⌜ (r ≡ endOf (now (dst .entry)) 0 (deskText (now (book .entry)) (now (calls .entry)))) × (now (dst .exit) ≡ laid (now (dst .entry)) 0 (deskText (now (book .entry)) (now (calls .entry)))) ⌝ }
 {
     if 65536 < calls.len() {
-        return statement::put_refusal(dst, 0, 2, 0);
+        return put::put_refusal(dst, 0, 2, 0);
     }
     let read = reading::read(book);
     let b = read.book;
@@ -68,7 +68,7 @@ fn put_desk(dst: &mut [u8], book: &[u8], calls: &[u8]) -> usize
     if call_lines::makes_book(calls) {
         return put_worked(dst, b, calls);
     }
-    statement::put_refusal(dst, 0, read.number, read.line)
+    put::put_refusal(dst, 0, read.number, read.line)
 }
 
 // What is printed of a book's text and a text of call lines.

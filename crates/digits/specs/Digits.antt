@@ -8,7 +8,6 @@ use lib.Dec.{leb, ltb, eqb}
 use Rattle.laws.specs.Truth.{pick, both, either, within}
 use Rattle.laws.specs.Search.{everyLine}
 use Rattle.laws.specs.Text.{byte}
-use Rattle.digits.specs.declared.Figure.{Figure}
 
 -- Reading.
 
@@ -36,6 +35,10 @@ unfoldable pub isFixed : ℕ → List ℕ → Bool
 isFixed width t = both (leb width 9) (both (eqb (length t) width) (everyLine isDigit t))
 
 -- what is read of a text: whether it has its form, and its number, 0 where it has not
+pub record Figure : Type 0 where
+  pub right : Bool
+  pub number : ℕ
+
 unfoldable pub figureOf : Bool → List ℕ → Figure
 figureOf right t = record { right = right; number = pick right (valueOf t) 0 }
 

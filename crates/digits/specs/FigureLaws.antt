@@ -1,60 +1,20 @@
--- Laws of digits: how the readers go through a text, how wide a number is, and how many digits are printed.
+-- Laws of digits: what a text has to be to write a number, how wide a number is, and how many digits are printed.
 use mathlib.Core.Path.{_≡_, refl, _∙_}
 use mathlib.Core.Bool.{Bool, true, false}
 use mathlib.Core.List.{List, [], _∷_, _++_, append-assoc}
-use Prim.Native.Nat.{ℕ, zero, suc, _+_, _-_, _*_, _/_, _^_, _≤_, _<_}
-use native.Mathlib.Nat.{pow-suc, pow-le-pow-right, add-zero}
-use native.Mathlib.Numerals.{add-one}
+use Prim.Native.Nat.{ℕ, zero, suc, _+_, _/_, _^_, _≤_, _<_}
+use native.Mathlib.Nat.{pow-le-pow-right, add-zero}
 use native.Mathlib.Omega.{arith}
 use borrow.Author.Tests.{lt-ltb, le-ltb, le-leb, lt-leb, eq-eqb, ne-eqb}
 use lib.Dec.{ltb}
-use lib.ListN.{length, getD, drop, drop-of-length-le}
-use lib.Seq.{drop-cons}
+use lib.ListN.{length, getD}
 use Rattle.laws.specs.Truth.{pick}
 use Rattle.laws.specs.TruthLaws.{by-test}
 use Rattle.laws.specs.Search.{everyLine}
 use Rattle.laws.specs.Text.{byte}
-use Rattle.digits.specs.declared.Figure.{Figure}
-use Rattle.digits.specs.Digits.{isDigit, valueFrom, valueOf, noLeadingZero, isNumber, isFixed, figureOf, noFigure, digit, fixedBefore, fixed, widthIn, widthOf, numerals}
+use Rattle.digits.specs.Digits.{isDigit, noLeadingZero, isNumber, isFixed, figureOf, noFigure, digit, fixedBefore, fixed, widthIn, widthOf, numerals}
 
 -- Reading.
-
--- what is read of the bytes left behind digits of the value v
-unfoldable pub figureFrom : ℕ → List ℕ → Figure
-figureFrom v t = record { right = everyLine isDigit t; number = pick (everyLine isDigit t) (valueFrom v t) 0 }
-
--- The reader of t has passed i bytes, digits of the value v.
-pub record Reading (t : List ℕ) (v i : ℕ) : Type 0 where
-  pub low : i ≤ length t
-  pub small : v < 10 ^ i
-  pub goes : figureFrom v (drop i t) ≡ figureOf (everyLine isDigit t) t
-
-pub reading-starts : (t : List ℕ) → Reading t 0 0
-unfolding figureFrom figureOf valueOf
-reading-starts t = record { low = omega arith; small = omega arith; goes = refl }
-
--- What byte i is ends the reading or moves it on by one.
-module _ {t : List ℕ} {v i : ℕ} (g : Reading t v i) where
-  pub reads-low : i < length t → getD t i 0 < byte "0" → noFigure ≡ figureOf (everyLine isDigit t) t
-  unfolding figureFrom everyLine isDigit
-  reads-low h l = simp (lt-leb _ _ l) at (rw (drop-cons t i 0 h) at (g .goes))
-
-  pub reads-high : i < length t → byte "0" ≤ getD t i 0 → byte "9" < getD t i 0 → noFigure ≡ figureOf (everyLine isDigit t) t
-  unfolding figureFrom everyLine isDigit
-  reads-high h l k = simp (le-leb _ _ l, lt-leb _ _ k) at (rw (drop-cons t i 0 h) at (g .goes))
-
-  pub reads-on : i < length t → byte "0" ≤ getD t i 0 → getD t i 0 ≤ byte "9" → Reading t (v * 10 + (getD t i 0 - byte "0")) (i + 1)
-  unfolding figureFrom everyLine isDigit valueFrom
-  reads-on h l k =
-      record {
-        low = omega arith;
-        small = rw (add-one, pow-suc 10 i) (omega (arith, g .small));
-        goes = rw add-one (simp (le-leb _ _ l, le-leb _ _ k) at (rw (drop-cons t i 0 h) at (g .goes)));
-      }
-
-  pub reads-out : length t ≤ i → record { right = true; number = v } ≡ figureOf (everyLine isDigit t) t
-  unfolding figureFrom everyLine valueFrom
-  reads-out h = rw (drop-of-length-le t h) at (g .goes)
 
 -- A digit more than eight fits 32 bits.
 pub few-digits : (i : ℕ) → i ≤ 8 → 10 ^ i ≤ 100000000
@@ -87,10 +47,6 @@ module _ (t : List ℕ) where
   number-more h k n = simp (le-leb 1 (length t) (omega arith), le-leb (length t) 9 k, lt-leb (length t) 1 h, ne-eqb _ _ n)
 
   module _ (width : ℕ) where
-    pub fixed-wide : 9 < width → noFigure ≡ figureOf (isFixed width t) t
-    unfolding isFixed
-    fixed-wide h = not-right t (simp (lt-leb width 9 h))
-
     pub fixed-other : width ≤ 9 → (length t ≡ width → ⊥) → noFigure ≡ figureOf (isFixed width t) t
     unfolding isFixed
     fixed-other h n = not-right t (simp (le-leb width 9 h, ne-eqb _ _ n))

@@ -1,6 +1,6 @@
 pub mod OneAnswer
 pub mod OneAnswerLaws
 pub mod PriceOf
-pub mod Functions
+pub mod FunctionLaws
 pub mod FileLaws
 pub mod IdleLaws

@@ -1,14 +1,15 @@
 -- Laws of the exported functions: printing over a print, the line in its room, what the words of a call say, and a script's calls one after the other.
 use mathlib.Core.Path.{_≡_, refl, ap, sym, _∙_}
 use mathlib.Core.Bool.{Bool, true, false}
-use mathlib.Core.List.{List, [], _∷_, _++_}
+use mathlib.Core.List.{List, _++_}
 use Prim.Native.Nat.{ℕ, suc, _+_, _-_, _*_, _/_, _%_, _≤_, _<_}
 use native.Mathlib.Nat.{sub-zero}
 use native.Mathlib.Omega.{arith}
-use borrow.Author.Tests.{eq-eqb, ne-eqb, leb-true}
-use lib.Dec.{leb}
+use borrow.Author.Tests.{eq-eqb, ne-eqb, leb-true, le-leb, lt-leb}
+use lib.Dec.{eqb, leb}
 use lib.ListN.{length, getD, take, drop, set, length-append, length-drop, length-set}
 use lib.Seq.{drop-at}
+use Rattle.laws.specs.Truth.{pick, both}
 use Rattle.laws.specs.TruthLaws.{both-true, picked, by-test}
 use Rattle.laws.specs.Checks.{allPass}
 use Rattle.series.specs.declared.Series.{Series}
@@ -19,21 +20,23 @@ use Rattle.rows.specs.declared.Book.{Book}
 use Rattle.rules.specs.Rules.{soundBook}
 use Rattle.calls.specs.declared.Outcome.{Outcome}
 use Rattle.calls.specs.Calls.{makeAnswer, openAnswer, closeAnswer, pairAnswer, splitAnswer, turnAnswer}
-use Rattle.put.specs.Put.{laid, endOf}
+use Rattle.put.specs.declared.Output.{Output}
+use Rattle.put.specs.Put.{laid}
+use Rattle.put.specs.PutLaws.{laid-start}
+use Rattle.put.specs.Output.{outputOf}
+use Rattle.put.specs.LineLaws.{line-is}
 use Rattle.printed.specs.declared.Printed.{Printed}
 use Rattle.printed.specs.Printed.{textOf, printChecks, printAnswer, printExit}
 use Rattle.printed.specs.PrintedLaws.{text-fits}
 use Rattle.reading.specs.declared.Answer.{Answer}
-use Rattle.reading.specs.Reading.{readText}
+use Rattle.reading.specs.Reading.{readBook}
 use Rattle.sheets.specs.declared.Sheet.{Sheet}
-use Rattle.checking.specs.Reading.{readText as readSheet}
+use Rattle.checking.specs.Reading.{readSheet}
 use Rattle.account.specs.declared.Margin.{Margin}
 use Rattle.account.specs.Margin.{marginOn, marginText}
-use Rattle.statement.specs.declared.Statement.{Statement}
-use Rattle.statement.specs.Statement.{statementText, statementOf}
-use Rattle.statement.specs.StatementLaws.{statement-fits, line-is}
-use Rattle.exports.specs.Exports.{coded, readCoded, printCoded, printedOf, printedExit}
-use Rattle.exports.specs.Script.{codeSaid, natureSaid, seriesSaid, sideSaid, pairSaid, callSaid, bookAfter, numbersAfter, callsIn}
+use Rattle.exports.specs.Exports.{coded, readCoded, printCoded, printedOf, printedExit, lineCoded, lineExit}
+use Rattle.exports.specs.Script.{codeSaid, identitySaid, natureSaid, seriesSaid, sideSaid, pairSaid, callSaid, bookAfter, numbersAfter}
+use Rattle.exports.specs.Runs.{scriptNumber, byRun, runCoded, runNumbers, runExit}
 
 -- Printing: the length of a text is small, and the buffer keeps its length.
 module _ (b : Book) (out : List ℕ) where
@@ -96,12 +99,12 @@ print-again b d first is next = (
 )
 
 -- The two ways through a text that is printed.
-module _ (text out : List ℕ) (a : Answer) (read : a ≡ readText text) where
-  pub text-refused : {r : ℕ} → (a .number ≡ 0 → ⊥) → r ≡ coded (a .number) (a .line) → (r ≡ printedOf (readText text) out) × (out ≡ printedExit (readText text) out)
+module _ (text out : List ℕ) (a : Answer) (read : a ≡ readBook text) where
+  pub text-refused : {r : ℕ} → (a .number ≡ 0 → ⊥) → r ≡ coded (a .number) (a .line) → (r ≡ printedOf (readBook text) out) × (out ≡ printedExit (readBook text) out)
   unfolding printedOf printedExit readCoded
   text-refused h is = rw (← read) (simp (ne-eqb _ _ h) is, simp (ne-eqb _ _ h))
 
-  pub text-printed : {r : ℕ} {p : Printed} {e : List ℕ} → a .number ≡ 0 → (p ≡ printAnswer (a .book) out) × (e ≡ printExit (a .book) out) → r ≡ coded (p .number) (p .length) → (r ≡ printedOf (readText text) out) × (e ≡ printedExit (readText text) out)
+  pub text-printed : {r : ℕ} {p : Printed} {e : List ℕ} → a .number ≡ 0 → (p ≡ printAnswer (a .book) out) × (e ≡ printExit (a .book) out) → r ≡ coded (p .number) (p .length) → (r ≡ printedOf (readBook text) out) × (e ≡ printedExit (readBook text) out)
   unfolding printedOf printedExit printCoded
   text-printed h said is = rw (← read) (simp (eq-eqb _ _ h) (rw (said .0) at is), simp (eq-eqb _ _ h) (said .1))
 
@@ -110,22 +113,39 @@ pub margin-is : (b : Book) (text : List ℕ) {s : Sheet} {m : Margin} → s ≡ 
 unfolding marginText
 margin-is b text read is = rw read at is
 
-pub line-laid : (book sheet out : List ℕ) (s : Statement) {e : List ℕ} {r : ℕ} → s ≡ statementOf (statementText book sheet) → (r ≡ endOf out 0 (take (s .length) (s .text))) × (e ≡ laid out 0 (take (s .length) (s .text))) → (r ≡ endOf out 0 (statementText book sheet)) × (e ≡ laid out 0 (statementText book sheet))
-line-laid book sheet out s is put = rw (line-is _ (statement-fits book sheet) s is) at put
+-- The line of two texts in a lent buffer: too short, or long enough.
+module _ (text out : List ℕ) (s : Output) (is : s ≡ outputOf text) (fits : length text ≤ 96) where
+  line-length : s .length ≡ length text
+  unfolding outputOf
+  line-length = ap (λ (o : Output). o .length) is
+
+  pub line-few : s .length < 4294967296
+  line-few = omega (arith, line-length)
+
+  pub line-short : {r : ℕ} → length out < s .length → r ≡ coded 15 0 → (r ≡ lineCoded text out) × (out ≡ lineExit text out)
+  unfolding lineCoded lineExit
+  line-short h e = let k = line-length in (e ∙ simp (lt-leb (length text) (length out) (omega arith)), simp (lt-leb (length text) (length out) (omega arith)))
+
+  pub line-whole : {r : ℕ} {e : List ℕ} → s .length ≤ length out → e ≡ laid out 0 (take (s .length) (s .text)) → r ≡ coded 0 (s .length) → (r ≡ lineCoded text out) × (e ≡ lineExit text out)
+  unfolding lineCoded lineExit
+  line-whole h laid-is e =
+      let k = line-length in
+      let t = le-leb (length text) (length out) (omega arith) in
+      (rw k at e ∙ simp t, (rw (line-is text fits s is) at laid-is) ∙ laid-start out text (omega arith) ∙ simp t)
 
 -- What was read of the words of a series, and of a pair.
 module _ (words : List ℕ) (at : ℕ) where
-  pub series-is : {w x y z date mark strike : ℕ} {n : Nature} → w ≡ getD words at 0 → x ≡ w / 65536 % 256 → y ≡ w / 256 % 256 → z ≡ w % 256 → date ≡ getD words (at + 1) 0 → mark ≡ getD words (at + 2) 0 → strike ≡ getD words (at + 3) 0 → n ≡ natureSaid mark strike → record { code = x ∷ y ∷ z ∷ []; date = date; nature = n } ≡ seriesSaid words at
-  unfolding seriesSaid codeSaid
-  series-is w x y z date mark strike n = rw (n, x, y, z, w, date, mark, strike)
+  pub series-is : {w date mark strike : ℕ} {code : List ℕ} {n : Nature} → w ≡ getD words at 0 → code ≡ codeSaid w → date ≡ getD words (at + 1) 0 → mark ≡ getD words (at + 2) 0 → strike ≡ getD words (at + 3) 0 → n ≡ natureSaid mark strike → record { code = code; date = date; nature = n } ≡ seriesSaid words at
+  unfolding seriesSaid
+  series-is w code date mark strike n = rw (n, code, w, date, mark, strike)
 
   pub pair-is : {kind r1 r2 units : ℕ} {first second : Series} → kind ≡ getD words (at + 9) 0 → first ≡ seriesSaid words (at + 1) → second ≡ seriesSaid words (at + 5) → r1 ≡ getD words (at + 10) 0 → r2 ≡ getD words (at + 11) 0 → units ≡ getD words (at + 12) 0 → record { kind = kind; first = first; second = second; r1 = r1; r2 = r2; units = units } ≡ pairSaid words at
   unfolding pairSaid
   pair-is kind first second r1 r2 units = rw (kind, first, second, r1, r2, units)
 
 -- The six calls.
-module _ (b : Book) (words : List ℕ) (at : ℕ) {call : ℕ} (is : call ≡ getD words at 0) where
-  pub make-said : {o : Outcome} {account w identity day : ℕ} → call ≡ 0 → account ≡ getD words (at + 9) 0 → w ≡ getD words (at + 10) 0 → identity ≡ w % 256 → day ≡ getD words (at + 11) 0 → o ≡ makeAnswer account identity day → o ≡ callSaid b words at
+module _ (b : Book) (words : List ℕ) (at : ℕ) {call : ℕ} (is : call ≡ getD words (at + 0) 0) where
+  pub make-said : {o : Outcome} {account w identity day : ℕ} → call ≡ 0 → account ≡ getD words (at + 9) 0 → w ≡ getD words (at + 10) 0 → identity ≡ identitySaid w → day ≡ getD words (at + 11) 0 → o ≡ makeAnswer account identity day → o ≡ callSaid b words at
   unfolding callSaid
   make-said h account w identity day o = rw (← is) (simp (eq-eqb _ _ h) (rw (identity, account, w, day) at o))
 
@@ -175,7 +195,33 @@ module _ {words : List ℕ} {calls : ℕ} {start : Book} {before numbers : List 
   unfolding bookAfter numbersAfter
   run-ends h = let n : calls - i ≡ 0 = omega arith in (rw n at (g .book), rw n at (g .said))
 
--- The book that results, printed; the numbers; the buffer.
-pub run-is : (text words out before : List ℕ) {e numbers : List ℕ} {calls : ℕ} {a : Answer} {b : Book} {p : Printed} → a ≡ readText text → calls ≡ callsIn words before → (b ≡ bookAfter calls words 0 (a .book)) × (numbers ≡ numbersAfter calls words 0 (a .book) before) → (p ≡ printAnswer b out) × (e ≡ printExit b out) → (p .length ≡ printAnswer (bookAfter (callsIn words before) words 0 (readText text .book)) out .length) × ((numbers ≡ numbersAfter (callsIn words before) words 0 (readText text .book) before) × (e ≡ printExit (bookAfter (callsIn words before) words 0 (readText text .book)) out))
-run-is text words out before read count ends printed =
-    rw (← count, ← read, ← ends .0) (ap (λ (q : Printed). q .length) (printed .0), (ends .1, printed .1))
+-- A script that is fit has a cell for each call.
+pub cells-enough : {number : ℕ} (words cells room : ℕ) → number ≡ scriptNumber words cells room → number ≡ 0 → words / 13 ≤ cells
+unfolding scriptNumber
+cells-enough words cells room is h = go (eqb (words % 13) 0) (both (leb (words / 13) cells) (leb 16384 room)) refl (sym is ∙ h)
+  where
+    go : (s t : Bool) → both (leb (words / 13) cells) (leb 16384 room) ≡ t → _≡_ {A = ℕ} (pick s (pick t 0 15) 1) 0 → words / 13 ≤ cells
+    go true true e z = leb-true (words / 13) cells (both-true (leb (words / 13) cells) (leb 16384 room) e .0)
+    go true false e z = absurd (omega arith)
+    go false t e z = absurd (omega arith)
+
+-- The three ways through a script: the book refused, the script unfit, the calls run and the book printed.
+module _ (text words before out : List ℕ) (a : Answer) (read : a ≡ readBook text) where
+  pub run-refused : {r : ℕ} → (a .number ≡ 0 → ⊥) → r ≡ coded (a .number) (a .line) → (r ≡ runCoded (readBook text) words before out) × ((before ≡ runNumbers (readBook text) words before out) × (out ≡ runExit (readBook text) words before out))
+  unfolding runCoded runNumbers runExit byRun readCoded
+  run-refused h is = rw (← read) (is ∙ simp (ne-eqb _ _ h), (simp (ne-eqb _ _ h), simp (ne-eqb _ _ h)))
+
+  module _ {number : ℕ} (taken : a .number ≡ 0) (said : number ≡ scriptNumber (length words) (length before) (length out)) where
+    pub run-unfit : {r : ℕ} → (number ≡ 0 → ⊥) → r ≡ coded number 0 → (r ≡ runCoded (readBook text) words before out) × ((before ≡ runNumbers (readBook text) words before out) × (out ≡ runExit (readBook text) words before out))
+    unfolding runCoded runNumbers runExit byRun
+    run-unfit h is =
+        let z = eq-eqb (a .number) 0 taken in
+        let n = ap (λ (k : ℕ). eqb k 0) (sym said) ∙ ne-eqb number 0 h in
+        rw (← read) ((rw said at is) ∙ simp (z, n), (simp (z, n), simp (z, n)))
+
+    pub run-done : {r : ℕ} {b : Book} {p : Printed} {numbers e : List ℕ} → number ≡ 0 → (b ≡ bookAfter (length words / 13) words 0 (a .book)) × (numbers ≡ numbersAfter (length words / 13) words 0 (a .book) before) → (p ≡ printAnswer b out) × (e ≡ printExit b out) → r ≡ coded (p .number) (p .length) → (r ≡ runCoded (readBook text) words before out) × ((numbers ≡ runNumbers (readBook text) words before out) × (e ≡ runExit (readBook text) words before out))
+    unfolding runCoded runNumbers runExit byRun printCoded
+    run-done h ran print is =
+        let z = eq-eqb (a .number) 0 taken in
+        let n = ap (λ (k : ℕ). eqb k 0) (sym said) ∙ eq-eqb number 0 h in
+        rw (← read) ((rw (print .0, ran .0) at is) ∙ simp (z, n), (ran .1 ∙ simp (z, n), (rw (ran .0) at (print .1)) ∙ simp (z, n)))

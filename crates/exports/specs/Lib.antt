@@ -1,3 +1,4 @@
 pub mod ExportLaws
 pub mod Exports
 pub mod Script
+pub mod Runs

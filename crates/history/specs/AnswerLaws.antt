@@ -20,17 +20,17 @@ use Rattle.calls.specs.declared.Outcome.{Outcome}
 use Rattle.calls.specs.Calls.{answered, bookChecks, openChecks, openAnswer, opened, closeChecks, closeAnswer, closed, pairingChecks, pairAnswer, joined, splitChecks, splitAnswer, parted, turnChecks, turnAnswer}
 use Rattle.calls.specs.PassLaws.{open-numbered, close-numbered, pair-numbered, split-numbered, turn-numbered}
 use Rattle.calls.specs.CallLaws.{accepts-back, refuses}
-use Rattle.history.specs.History.{Call, openLots, closeLots, pairUnits, splitUnits, turnDay, step, checksOf, numbersOf}
+use Rattle.history.specs.History.{BookCall, openLots, closeLots, pairUnits, splitUnits, turnDay, step, checksOf, numbersOf}
 
 -- The book that results where a call is accepted; so every call is answered by its checks, the book and that one.
-unfoldable pub bookAfter : Book → Call → Book
+unfoldable pub bookAfter : Book → BookCall → Book
 bookAfter b (openLots s d n) = opened b s d n
 bookAfter b (closeLots s d n) = closed b s d n
 bookAfter b (pairUnits p) = joined b p
 bookAfter b (splitUnits p) = parted b p
 bookAfter b (turnDay day) = withDay b day
 
-pub step-is : (b : Book) (c : Call) → step b c ≡ answered (checksOf b c) b (bookAfter b c)
+pub step-is : (b : Book) (c : BookCall) → step b c ≡ answered (checksOf b c) b (bookAfter b c)
 unfolding step checksOf bookAfter openAnswer closeAnswer pairAnswer splitAnswer turnAnswer
 step-is b (openLots s d n) = refl
 step-is b (closeLots s d n) = refl
@@ -38,7 +38,7 @@ step-is b (pairUnits p) = refl
 step-is b (splitUnits p) = refl
 step-is b (turnDay day) = refl
 
-pub calls-numbered : (b : Book) (c : Call) → numbered (checksOf b c) ≡ true
+pub calls-numbered : (b : Book) (c : BookCall) → numbered (checksOf b c) ≡ true
 unfolding checksOf
 calls-numbered b (openLots s d n) = open-numbered b s d n
 calls-numbered b (closeLots s d n) = close-numbered b s d n
@@ -47,7 +47,7 @@ calls-numbered b (splitUnits p) = split-numbered b p
 calls-numbered b (turnDay day) = turn-numbered b day
 
 -- Accepted exactly when no check fails; a refused call leaves the book as it was.
-module _ (b : Book) (c : Call) where
+module _ (b : Book) (c : BookCall) where
   pub number-is : step b c .number ≡ firstFailing (checksOf b c)
   unfolding answered
   number-is = ap (λ (o : Outcome). o .number) (step-is b c)
@@ -66,7 +66,7 @@ module _ (b : Book) (c : Call) where
   refusal h = refused (checksOf b c) (step b c .number) h (sym number-is)
 
 -- The checks have these numbers, in this order.
-pub checks-numbers : (b : Book) (c : Call) → map (λ (k : Check). k .number) (checksOf b c) ≡ numbersOf c
+pub checks-numbers : (b : Book) (c : BookCall) → map (λ (k : Check). k .number) (checksOf b c) ≡ numbersOf c
 unfolding checksOf numbersOf openChecks closeChecks pairingChecks splitChecks turnChecks bookChecks seriesChecks pairChecks
 checks-numbers b (openLots s d n) = refl
 checks-numbers b (closeLots s d n) = refl
@@ -75,7 +75,7 @@ checks-numbers b (splitUnits p) = refl
 checks-numbers b (turnDay day) = refl
 
 -- On a sound book 16 is never answered: the number is that of one of the call's own checks.
-after-16 : (b : Book) (c : Call) → checksOf b c ≡ 16 unless soundBook b ∷ drop 1 (checksOf b c)
+after-16 : (b : Book) (c : BookCall) → checksOf b c ≡ 16 unless soundBook b ∷ drop 1 (checksOf b c)
 unfolding checksOf openChecks closeChecks pairingChecks splitChecks turnChecks bookChecks
 after-16 b (openLots s d n) = refl
 after-16 b (closeLots s d n) = refl
@@ -83,7 +83,7 @@ after-16 b (pairUnits p) = refl
 after-16 b (splitUnits p) = refl
 after-16 b (turnDay day) = refl
 
-own-number : (b : Book) (c : Call) → soundBook b ≡ true → step b c .number ≡ firstFailing (drop 1 (checksOf b c))
+own-number : (b : Book) (c : BookCall) → soundBook b ≡ true → step b c .number ≡ firstFailing (drop 1 (checksOf b c))
 unfolding firstFailing
 own-number b c e = number-is b c ∙ ap firstFailing (after-16 b c) ∙ rw e
 
@@ -96,7 +96,7 @@ not-among n (c ∷ cs) h e =
     (λ q. not-among n cs h (k .1))
     (λ q. eqb-false (c .number) n (not-true _ (k .0)))
 
-own-not-16 : (b : Book) (c : Call) → everyLine (λ (k : Check). not (eqb (k .number) 16)) (drop 1 (checksOf b c)) ≡ true
+own-not-16 : (b : Book) (c : BookCall) → everyLine (λ (k : Check). not (eqb (k .number) 16)) (drop 1 (checksOf b c)) ≡ true
 unfolding everyLine checksOf openChecks closeChecks pairingChecks splitChecks turnChecks bookChecks seriesChecks pairChecks
 own-not-16 b (openLots s d n) = refl
 own-not-16 b (closeLots s d n) = refl
@@ -104,5 +104,5 @@ own-not-16 b (pairUnits p) = refl
 own-not-16 b (splitUnits p) = refl
 own-not-16 b (turnDay day) = refl
 
-pub never-16 : (b : Book) (c : Call) → soundBook b ≡ true → step b c .number ≡ 16 → ⊥
+pub never-16 : (b : Book) (c : BookCall) → soundBook b ≡ true → step b c .number ≡ 16 → ⊥
 never-16 b c e f = not-among 16 (drop 1 (checksOf b c)) (omega arith) (own-not-16 b c) (sym (own-number b c e) ∙ f)

@@ -14,11 +14,11 @@ use Rattle.rules.specs.Lots.{tied, total, free, unitsOf}
 use Rattle.rules.specs.Rules.{soundBook}
 use Rattle.calls.specs.declared.Outcome.{Outcome}
 use Rattle.calls.specs.Calls.{makeAnswer}
-use Rattle.history.specs.History.{Call, checksOf, made, run, accepted}
+use Rattle.history.specs.History.{BookCall, checksOf, made, run, accepted}
 use Rattle.history.specs.Counts.{lotsOpened, lotsClosed, unitsPaired, unitsSplit, lastDay}
 
 -- The book b is what the calls `done` say, which were accepted since it was made with this account, identity and day.
-pub record AsCounted (account identity day : ℕ) (done : List Call) (b : Book) : Type 0 where
+pub record AsCounted (account identity day : ℕ) (done : List BookCall) (b : Book) : Type 0 where
   -- the book keeps every rule
   pub sound : soundBook b ≡ true
   -- for each series and side: free lots plus lots in standing pairs are the lots opened less those closed, which are no more
@@ -36,17 +36,17 @@ pub record AsCounted (account identity day : ℕ) (done : List Call) (b : Book) 
   pub day-counted : b .day ≡ lastDay day done
 
 -- What demand 3 asks of a program that answers calls.
-pub record Demand3 (program : Book → Call → Outcome) : Type 0 where
+pub record Demand3 (program : Book → BookCall → Outcome) : Type 0 where
   -- after any calls on any book that make accepts, the book is what the accepted ones say
-  pub counted : (account identity day : ℕ) (calls : List Call) → makeAnswer account identity day .number ≡ 0
+  pub counted : (account identity day : ℕ) (calls : List BookCall) → makeAnswer account identity day .number ≡ 0
       → AsCounted account identity day (accepted program (made account identity day) calls) (run program (made account identity day) calls)
   -- a call is accepted exactly when none of the paper's checks fails
-  pub accepts : (b : Book) (c : Call) → allPass (checksOf b c) ≡ true → program b c .number ≡ 0
-  pub accepts-only : (b : Book) (c : Call) → program b c .number ≡ 0 → allPass (checksOf b c) ≡ true
+  pub accepts : (b : Book) (c : BookCall) → allPass (checksOf b c) ≡ true → program b c .number ≡ 0
+  pub accepts-only : (b : Book) (c : BookCall) → program b c .number ≡ 0 → allPass (checksOf b c) ≡ true
   -- a refused call leaves the book as it was
-  pub refused-keeps : (b : Book) (c : Call) → allPass (checksOf b c) ≡ false → program b c .book ≡ b
+  pub refused-keeps : (b : Book) (c : BookCall) → allPass (checksOf b c) ≡ false → program b c .book ≡ b
 
--- "Two books of one account, code and day with the same free lots and pairs" (SameLaws: where both are sound they are one book)
+-- "Two books of the same account, client code and day, with the same lots free and the same pairs" (SameLaws: where both are sound they are one book)
 pub record Alike (a b : Book) : Type 0 where
   pub same-account : a .account ≡ b .account
   pub same-identity : a .identity ≡ b .identity

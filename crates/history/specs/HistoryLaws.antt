@@ -22,13 +22,13 @@ use Rattle.calls.specs.PassLaws.{make-numbered, open-passes, close-passes, pair
 use Rattle.calls.specs.OpenLaws.{open-total, open-units, open-sound, close-total, close-units, close-enough, close-sound}
 use Rattle.calls.specs.TieLaws.{pair-total, pair-units, pair-sound, split-total, split-units, split-enough, split-sound}
 use Rattle.calls.specs.CallLaws.{accepts, accepts-back, refuses, no-book-sound, make-sound, make-total, make-units, turn-total, turn-units, turn-sound}
-use Rattle.history.specs.History.{Call, openLots, closeLots, pairUnits, splitUnits, turnDay, step, checksOf, made, run, accepted}
+use Rattle.history.specs.History.{BookCall, openLots, closeLots, pairUnits, splitUnits, turnDay, step, checksOf, made, run, accepted}
 use Rattle.history.specs.Counts.{opens, closes, pairs, splits, turnsTo, lotsOpened, lotsClosed, unitsPaired, unitsSplit, lastDay}
 use Rattle.history.specs.AnswerLaws.{bookAfter, accepted-when, passing-book, refused-book}
 use Rattle.history.specs.Demand.{AsCounted, Demand3}
 
 -- What a book became since it was b: sound, and changed by what the calls in between say and by nothing else.
-pub record Since (b : Book) (done : List Call) (after : Book) : Type 0 where
+pub record Since (b : Book) (done : List BookCall) (after : Book) : Type 0 where
   pub sound : Sound after
   pub lots : (s : Series) (d : Side) → total (holdingsOf after) s d + lotsClosed done s d ≡ total (holdingsOf b) s d + lotsOpened done s d
   pub units : (p : Pair) → unitsOf (pairsOf after) p + unitsSplit done p ≡ unitsOf (pairsOf b) p + unitsPaired done p
@@ -40,7 +40,7 @@ since-none : {b : Book} → Sound b → Since b [] b
 unfolding lotsOpened lotsClosed unitsPaired unitsSplit lastDay sumOf
 since-none s = record { sound = s; lots = λ t d. refl; units = λ p. refl; same-account = refl; same-identity = refl; day = refl }
 
-since-then : {b m a : Book} {c : Call} {done : List Call} → Since b (c ∷ []) m → Since m done a → Since b (c ∷ done) a
+since-then : {b m a : Book} {c : BookCall} {done : List BookCall} → Since b (c ∷ []) m → Since m done a → Since b (c ∷ done) a
 unfolding lotsOpened lotsClosed unitsPaired unitsSplit lastDay sumOf
 since-then {b} {m} {a} {c} {done} h k =
     record {
@@ -53,7 +53,7 @@ since-then {b} {m} {a} {c} {done} h k =
     }
 
 -- Each call, where none of its checks fails.
-did : (b : Book) (c : Call) → allPass (checksOf b c) ≡ true → Since b (c ∷ []) (bookAfter b c)
+did : (b : Book) (c : BookCall) → allPass (checksOf b c) ≡ true → Since b (c ∷ []) (bookAfter b c)
 unfolding checksOf bookAfter lotsOpened lotsClosed unitsPaired unitsSplit lastDay sumOf opens closes pairs splits turnsTo ties opened closed joined parted withHoldings withPairs withDay free
 did b (openLots s d n) e =
     let o = open-passes b s d n e in
@@ -106,7 +106,7 @@ did b (turnDay day) e =
     }
 
 -- After any calls on a sound book, refused ones among them.
-pub since : (b : Book) (calls : List Call) → Sound b → Since b (accepted step b calls) (run step b calls)
+pub since : (b : Book) (calls : List BookCall) → Sound b → Since b (accepted step b calls) (run step b calls)
 unfolding run accepted
 since b [] s = since-none s
 since b (c ∷ calls) s =
@@ -126,7 +126,7 @@ module _ (account identity day : ℕ) (e : makeAnswer account identity day .numb
   made-is = accepts-back (makeChecks account identity day) noBook (emptyBook account identity day) make-passes .1
 
 -- So what it became is what the calls say.
-told : {account identity day : ℕ} {done : List Call} {b : Book} → Since (emptyBook account identity day) done b → AsCounted account identity day done b
+told : {account identity day : ℕ} {done : List BookCall} {b : Book} → Since (emptyBook account identity day) done b → AsCounted account identity day done b
 unfolding free emptyBook bookOf
 told {account} {identity} {day} {done} {b} h =
     record {
@@ -142,16 +142,16 @@ told {account} {identity} {day} {done} {b} h =
     }
 
 -- Demand 3: after any calls on a made book, refused ones among them, the book is what the accepted ones say.
-pub history : (account identity day : ℕ) (calls : List Call) → makeAnswer account identity day .number ≡ 0 → AsCounted account identity day (accepted step (made account identity day) calls) (run step (made account identity day) calls)
+pub history : (account identity day : ℕ) (calls : List BookCall) → makeAnswer account identity day .number ≡ 0 → AsCounted account identity day (accepted step (made account identity day) calls) (run step (made account identity day) calls)
 history account identity day calls e =
     rw (made-is account identity day e) (told (since (emptyBook account identity day) calls (make-sound account identity day (make-passes account identity day e))))
 
 -- A refused make gives an empty book too, whose history is told in the same way.
-no-book-told : (calls : List Call) → AsCounted 0 (byte "0") 20000101 (accepted step noBook calls) (run step noBook calls)
+no-book-told : (calls : List BookCall) → AsCounted 0 (byte "0") 20000101 (accepted step noBook calls) (run step noBook calls)
 unfolding noBook
 no-book-told calls = told (since noBook calls no-book-sound)
 
-pub refused-make : (account identity day : ℕ) (calls : List Call) → 0 < makeAnswer account identity day .number → AsCounted 0 (byte "0") 20000101 (accepted step (made account identity day) calls) (run step (made account identity day) calls)
+pub refused-make : (account identity day : ℕ) (calls : List BookCall) → 0 < makeAnswer account identity day .number → AsCounted 0 (byte "0") 20000101 (accepted step (made account identity day) calls) (run step (made account identity day) calls)
 unfolding makeAnswer
 refused-make account identity day calls h =
     let cs = makeChecks account identity day in

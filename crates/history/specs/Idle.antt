@@ -6,7 +6,7 @@ use Rattle.series.specs.declared.Nature.the-variants.{Future}
 use Rattle.series.specs.declared.Side.the-variants.{Long, Short}
 use Rattle.rows.specs.declared.Pair.{Pair}
 use Rattle.rows.specs.declared.Book.{Book}
-use Rattle.history.specs.History.{Call, openLots, closeLots, pairUnits, splitUnits, turnDay, made}
+use Rattle.history.specs.History.{BookCall, openLots, closeLots, pairUnits, splitUnits, turnDay, made}
 
 -- an empty book with the account, code and day of the paper's sample
 unfoldable pub sample : Book
@@ -23,20 +23,20 @@ unfoldable pub spread : Pair
 spread = record { kind = 7; first = october; second = november; r1 = 1; r2 = 1; units = 1 }
 
 -- two lots opened, then one of the other series; paired; split; one closed; the day turned
-unfoldable pub oneOpened : List Call
+unfoldable pub oneOpened : List BookCall
 oneOpened = openLots october Long 2 ∷ []
 
-unfoldable pub twoOpened : List Call
+unfoldable pub twoOpened : List BookCall
 twoOpened = oneOpened ++ (openLots november Short 1 ∷ [])
 
-unfoldable pub thenPaired : List Call
+unfoldable pub thenPaired : List BookCall
 thenPaired = twoOpened ++ (pairUnits spread ∷ [])
 
-unfoldable pub thenSplit : List Call
+unfoldable pub thenSplit : List BookCall
 thenSplit = thenPaired ++ (splitUnits spread ∷ [])
 
-unfoldable pub thenClosed : List Call
+unfoldable pub thenClosed : List BookCall
 thenClosed = thenSplit ++ (closeLots october Long 1 ∷ [])
 
-unfoldable pub thenTurned : List Call
+unfoldable pub thenTurned : List BookCall
 thenTurned = thenClosed ++ (turnDay 20191001 ∷ [])

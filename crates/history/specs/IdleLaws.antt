@@ -26,10 +26,10 @@ use Rattle.rows.specs.declared.Book.{Book}
 use Rattle.rows.specs.Book.{holdingsOf, pairsOf, bookOf, withHoldings, withPairs, withDay, emptyBook, holdingIn, pairIn}
 use Rattle.rows.specs.Rows.{seriesRank, holdingRank, pairRank, sameSeries, emptyHolding, emptyPair, isEmptySeries, isEmptyHolding, isEmptyPair}
 use Rattle.rules.specs.Lots.{firstLeg, secondLeg, ties, tiedBy, tied, total, free, unitsOf, legCovered, pairCovered, covered}
-use Rattle.rules.specs.Rules.{countsFit, goodHolding, goodPair, rowsSound, holdingsSound, pairsSound, bookRules, soundBook}
+use Rattle.rules.specs.Rules.{countsFit, goodLots, goodHolding, goodPair, rowsSound, holdingsSound, pairsSound, bookRules, soundBook}
 use Rattle.calls.specs.declared.Outcome.{Outcome}
 use Rattle.calls.specs.Calls.{answered, makeChecks, makeAnswer, bookChecks, heldOf, openChecks, opened, openAnswer, closeChecks, closed, closeAnswer, legFree, pairingChecks, joined, pairAnswer, splitChecks, parted, splitAnswer, turnChecks, turnAnswer}
-use Rattle.history.specs.History.{Call, openLots, closeLots, pairUnits, splitUnits, turnDay, step, checksOf, run, accepted}
+use Rattle.history.specs.History.{BookCall, openLots, closeLots, pairUnits, splitUnits, turnDay, step, checksOf, run, accepted}
 use Rattle.history.specs.Idle.{sample, october, november, spread, oneOpened, twoOpened, thenPaired, thenSplit, thenClosed, thenTurned}
 use Rattle.history.specs.Demand.{Demand3}
 use Rattle.history.specs.ProgramLaws.{run-then, one-book}
@@ -57,7 +57,7 @@ pub record Seen : Type 0 where
   pub then-turned : run step sample thenTurned .day ≡ 20191001
 
 pub seen : Seen
-unfolding sameBytes firstFailing allPass byKind orderOf bytesOrder join firstWhere everyLine full sumOf ascendingFrom ascending stands look placed without kept shortMonth daysIn isDay listed productOf classOf seriesChecks goodSeries codeKey natureKey highKey key sameCode bothFutures oneToOne calendar partsOf pairChecks mayStand firstSide secondSide holdingsOf pairsOf bookOf withHoldings withPairs withDay emptyBook holdingIn pairIn seriesRank holdingRank pairRank sameSeries emptyHolding emptyPair isEmptySeries isEmptyHolding isEmptyPair firstLeg secondLeg ties tiedBy tied total free unitsOf legCovered pairCovered covered countsFit goodHolding goodPair rowsSound holdingsSound pairsSound bookRules soundBook answered makeChecks makeAnswer bookChecks heldOf openChecks opened openAnswer closeChecks closed closeAnswer legFree pairingChecks joined pairAnswer splitChecks parted splitAnswer turnChecks turnAnswer step run accepted checksOf sample october november spread oneOpened twoOpened thenPaired thenSplit thenClosed thenTurned
+unfolding sameBytes firstFailing allPass byKind orderOf bytesOrder join firstWhere everyLine full sumOf ascendingFrom ascending stands look placed without kept shortMonth daysIn isDay listed productOf classOf seriesChecks goodSeries codeKey natureKey highKey key sameCode bothFutures oneToOne calendar partsOf pairChecks mayStand firstSide secondSide holdingsOf pairsOf bookOf withHoldings withPairs withDay emptyBook holdingIn pairIn seriesRank holdingRank pairRank sameSeries emptyHolding emptyPair isEmptySeries isEmptyHolding isEmptyPair firstLeg secondLeg ties tiedBy tied total free unitsOf legCovered pairCovered covered countsFit goodLots goodHolding goodPair rowsSound holdingsSound pairsSound bookRules soundBook answered makeChecks makeAnswer bookChecks heldOf openChecks opened openAnswer closeChecks closed closeAnswer legFree pairingChecks joined pairAnswer splitChecks parted splitAnswer turnChecks turnAnswer step run accepted checksOf sample october november spread oneOpened twoOpened thenPaired thenSplit thenClosed thenTurned
 seen =
     record {
       made = refl;
@@ -76,14 +76,14 @@ seen =
       then-turned = refl;
     }
 
-module _ (program : Book → Call → Outcome) (h : Demand3 program) where
+module _ (program : Book → BookCall → Outcome) (h : Demand3 program) where
   -- It comes to our book after any calls.
-  ours : (calls : List Call) → run program sample calls ≡ run step sample calls
+  ours : (calls : List BookCall) → run program sample calls ≡ run step sample calls
   unfolding sample
   ours calls = one-book program h 7 (byte "1") 20190930 (seen .made) calls
 
   -- So it does not leave the book at a call by which a number that is read of ours changes.
-  not-left : (read : Book → ℕ) {m n : ℕ} (cs : List Call) (c : Call) → read (run step sample cs) ≡ m → read (run step sample (cs ++ (c ∷ []))) ≡ n → (n ≡ m → ⊥) → ((b : Book) → program b c .book ≡ b) → ⊥
+  not-left : (read : Book → ℕ) {m n : ℕ} (cs : List BookCall) (c : BookCall) → read (run step sample cs) ≡ m → read (run step sample (cs ++ (c ∷ []))) ≡ n → (n ≡ m → ⊥) → ((b : Book) → program b c .book ≡ b) → ⊥
   unfolding run
   not-left read cs c x y differ e =
       let same = sym (ours (cs ++ (c ∷ []))) ∙ run-then program sample cs (c ∷ []) ∙ e (run program sample cs) ∙ ours cs in
@@ -93,18 +93,18 @@ module _ (program : Book → Call → Outcome) (h : Demand3 program) where
   first-accepted = h .accepts sample (openLots october Long 2) (seen .first-passes)
 
   -- "refuses each call": the first call is not refused
-  pub refuses-each-call : ((b : Book) (c : Call) → 0 < program b c .number) → ⊥
+  pub refuses-each-call : ((b : Book) (c : BookCall) → 0 < program b c .number) → ⊥
   refuses-each-call e = let x = first-accepted in let y = e sample (openLots october Long 2) in omega arith
 
   -- "returns the book unaltered": after the first call there are two lots
-  pub returns-unaltered : ((b : Book) (c : Call) → program b c .book ≡ b) → ⊥
+  pub returns-unaltered : ((b : Book) (c : BookCall) → program b c .book ≡ b) → ⊥
   unfolding oneOpened run
   returns-unaltered e =
       let first = openLots october Long 2 in
       not-left (λ (b : Book). free b october Long) [] first (seen .none-opened) (seen .one-opened) (λ q. omega arith) (λ b. e b first)
 
   -- "keeps only the first call", or the first that it accepts: after the second there is a lot of the other series
-  pub keeps-first : ((c : Call) (calls : List Call) → program sample c .number ≡ 0 → run program sample (c ∷ calls) ≡ run program sample (c ∷ [])) → ⊥
+  pub keeps-first : ((c : BookCall) (calls : List BookCall) → program sample c .number ≡ 0 → run program sample (c ∷ calls) ≡ run program sample (c ∷ [])) → ⊥
   unfolding oneOpened twoOpened
   keeps-first e =
       let same = sym (ours twoOpened) ∙ e (openLots october Long 2) (openLots november Short 1 ∷ []) first-accepted ∙ ours oneOpened in

@@ -24,7 +24,7 @@ use Rattle.rules.specs.Rules.{goodHolding, goodPair, soundBook}
 use Rattle.rules.specs.Facts.{GoodPair, Sound}
 use Rattle.rules.specs.RuleLaws.{holding-is, pair-is, counts-are, sound-is, holdings-good, holdings-order, pairs-good, pairs-order, book-is}
 use Rattle.calls.specs.PairedLaws.{one-pair, one-series, same-but-units}
-use Rattle.history.specs.History.{Call}
+use Rattle.history.specs.History.{BookCall}
 use Rattle.history.specs.Counts.{lotsOpened, lotsClosed, unitsPaired, unitsSplit, lastDay}
 use Rattle.history.specs.Demand.{AsCounted, Alike}
 
@@ -95,7 +95,7 @@ same-book a b g f h =
     book-is a x ∙ (λ i. bookOf (account i) (identity i) (day i) (hs i) (ps i)) ∙ sym (book-is b y)
 
 -- So the counts alone say which book it is, in whatever order the calls came.
-module _ {account identity day : ℕ} {done also : List Call} {a b : Book} (x : AsCounted account identity day done a) (y : AsCounted account identity day also b) where
+module _ {account identity day : ℕ} {done also : List BookCall} {a b : Book} (x : AsCounted account identity day done a) (y : AsCounted account identity day also b) where
   pub same-counts : ((s : Series) (d : Side) → lotsOpened done s d - lotsClosed done s d ≡ lotsOpened also s d - lotsClosed also s d) → ((p : Pair) → unitsPaired done p - unitsSplit done p ≡ unitsPaired also p - unitsSplit also p) → lastDay day done ≡ lastDay day also → a ≡ b
   same-counts lots units last =
       let stand : (p : Pair) → unitsOf (pairsOf a) p ≡ unitsOf (pairsOf b) p = λ p. x .units p ∙ units p ∙ sym (y .units p) in

@@ -22,12 +22,12 @@ passed-all : (n : ℕ) (b more : Bool) (rest : ℕ) → 0 < n → (rest ≡ 0 �
 passed-all n true more rest h k e = k e
 passed-all n false more rest h k e = absurd (omega arith)
 
-pub accepted : (cs : List Check) → numbered cs ≡ true → firstFailing cs ≡ 0 → allPass cs ≡ true
+pub no-failure : (cs : List Check) → numbered cs ≡ true → firstFailing cs ≡ 0 → allPass cs ≡ true
 unfolding firstFailing allPass numbered
-accepted [] k e = refl
-accepted (c ∷ cs) k e =
+no-failure [] k e = refl
+no-failure (c ∷ cs) k e =
     let h = both-true (ltb 0 (c .number)) (numbered cs) k in
-    passed-all (c .number) (c .passes) (allPass cs) (firstFailing cs) (ltb-true 0 (c .number) (h .0)) (accepted cs (h .1)) e
+    passed-all (c .number) (c .passes) (allPass cs) (firstFailing cs) (ltb-true 0 (c .number) (h .0)) (no-failure cs (h .1)) e
 
 -- So the number 0 is the test that none fails.
 pub by-number : (cs : List Check) → numbered cs ≡ true → eqb (firstFailing cs) 0 ≡ allPass cs
@@ -36,7 +36,7 @@ by-number cs k = go (eqb (firstFailing cs) 0) (allPass cs) refl refl
     go : (a b : Bool) → eqb (firstFailing cs) 0 ≡ a → allPass cs ≡ b → a ≡ b
     go true true e f = refl
     go false false e f = refl
-    go true false e f = absurd (clash (accepted cs k (eqb-true (firstFailing cs) 0 e)) f)
+    go true false e f = absurd (clash (no-failure cs k (eqb-true (firstFailing cs) 0 e)) f)
     go false true e f = absurd (eqb-false (firstFailing cs) 0 e (none-fails cs f))
 
 pub some-fails : (cs : List Check) → numbered cs ≡ true → allPass cs ≡ false → 0 < firstFailing cs

@@ -6,25 +6,25 @@ use Prim.Native.Nat.{ℕ, _+_}
 use lib.Dec.{eqb}
 use lib.ListN.{getD}
 use Rattle.laws.specs.Truth.{pick, both}
-use Rattle.lines.specs.declared.Kind.{Kind}
-use Rattle.lines.specs.declared.Kind.the-variants.{Number, Date, Code, Mark}
+use Rattle.lines.specs.declared.Asked.{Asked}
+use Rattle.lines.specs.declared.Asked.the-variants.{Number, Date, Code, Mark}
 use Rattle.lines.specs.declared.Cell.{Cell}
 use Rattle.lines.specs.declared.Field.{Field}
 use Rattle.lines.specs.declared.Written.{Written}
-use Rattle.lines.specs.Parts.{tab}
+use Rattle.lines.specs.Pieces.{tab}
 use Rattle.lines.specs.Fields.{noCell, noField, fieldAt, seriesOf}
 
--- the field of a kind behind the tab at `at`; none where no tab stands there
-unfoldable pub fieldBehind : Kind → List ℕ → ℕ → Field
-fieldBehind kind t at = pick (eqb (getD t at 0) tab) (fieldAt kind t (at + 1)) noField
+-- the field behind the tab at `at`; none where no tab stands there
+unfoldable pub fieldBehind : Asked → List ℕ → ℕ → Field
+fieldBehind asked t at = pick (eqb (getD t at 0) tab) (fieldAt asked t (at + 1)) noField
 
--- Fields of so many kinds: whether each has its form, what stands in them, and the place behind the last.
+-- Fields of which so much is asked: whether each has its form, what stands in them, and the place behind the last.
 pub record Chain : Type 0 where
   pub right : Bool
   pub cells : List Cell
   pub stop : ℕ
 
-unfoldable pub chainBehind : List Kind → List ℕ → ℕ → Chain
+unfoldable pub chainBehind : List Asked → List ℕ → ℕ → Chain
 chainBehind [] t at = record { right = true; cells = []; stop = at }
 chainBehind (k ∷ ks) t at =
     record {
@@ -34,7 +34,7 @@ chainBehind (k ∷ ks) t at =
     }
 
 -- "SERIES is code, date, nature, strike"
-unfoldable pub seriesForm : List Kind
+unfoldable pub seriesForm : List Asked
 seriesForm = Code ∷ Date ∷ Mark ∷ Number ∷ []
 
 -- the series that the cells of such a chain write

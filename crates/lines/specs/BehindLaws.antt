@@ -13,11 +13,11 @@ use lib.ListN.{getD, length, take, drop, drop-of-length-le, length-drop, List·g
 use lib.Seq.{append-snoc, drop-cons, take-suc-set}
 use Rattle.laws.specs.Truth.{pick, both, either}
 use Rattle.laws.specs.TruthLaws.{clash, both-true, both-end, both-first, by-test}
-use Rattle.lines.specs.declared.Kind.{Kind}
-use Rattle.lines.specs.declared.Kind.the-variants.{Nothing, Number, Date, Code, Mark}
+use Rattle.lines.specs.declared.Asked.{Asked}
+use Rattle.lines.specs.declared.Asked.the-variants.{Nothing, Number, Date, Code, Mark}
 use Rattle.lines.specs.declared.Cell.{Cell}
 use Rattle.lines.specs.declared.Field.{Field}
-use Rattle.lines.specs.Parts.{tab, lf, nextOf, stops, stopOf}
+use Rattle.lines.specs.Pieces.{tab, lf, nextOf, stops, stopOf}
 use Rattle.lines.specs.Fields.{cellOf, hasForm, cellsOf, fieldText, noField, fieldAt, fieldWith, seriesOf}
 use Rattle.lines.specs.Behind.{fieldBehind, Chain, chainBehind, seriesForm, writtenIn}
 use Rattle.lines.specs.StopLaws.{stop-low, stop-byte, lineAt}
@@ -29,25 +29,25 @@ by-equal : (x y : ℕ) {P : Type 0} → (x ≡ y → P) → ((x ≡ y → ⊥) �
 by-equal x y {P} same other = by-test (λ (b : Bool). eqb x y ≡ b → P) (eqb x y) (λ q e. same (eqb-true x y e)) (λ q e. other (eqb-false x y e)) refl
 
 -- the field behind a tab, and where none stands
-module _ (kind : Kind) (t : List ℕ) (at : ℕ) where
-  pub behind-tab : {b : ℕ} → b ≡ getD t at 0 → b ≡ tab → fieldAt kind t (at + 1) ≡ fieldBehind kind t at
+module _ (asked : Asked) (t : List ℕ) (at : ℕ) where
+  pub behind-tab : {b : ℕ} → b ≡ getD t at 0 → b ≡ tab → fieldAt asked t (at + 1) ≡ fieldBehind asked t at
   unfolding fieldBehind
   behind-tab {b} is e = rw (eq-eqb (getD t at 0) tab (sym is ∙ e))
 
-  pub behind-none : {b : ℕ} → b ≡ getD t at 0 → (b ≡ tab → ⊥) → noField ≡ fieldBehind kind t at
+  pub behind-none : {b : ℕ} → b ≡ getD t at 0 → (b ≡ tab → ⊥) → noField ≡ fieldBehind asked t at
   unfolding fieldBehind
   behind-none {b} is n = rw (ne-eqb (getD t at 0) tab (λ z. n (is ∙ z)))
 
   -- Without a tab no field has its form; one that has it ends at a tab or LF behind the tab.
-  pub behind-off : (getD t at 0 ≡ tab → ⊥) → fieldBehind kind t at .cell .right ≡ false
+  pub behind-off : (getD t at 0 ≡ tab → ⊥) → fieldBehind asked t at .cell .right ≡ false
   unfolding cellOf
   behind-off n = sym (ap (λ (f : Field). f .cell .right) (behind-none refl n))
 
-  pub behind-on : fieldBehind kind t at .cell .right ≡ true → (at < fieldBehind kind t at .stop) × ((fieldBehind kind t at .stop < length t) × (stops (getD t (fieldBehind kind t at .stop) 0) ≡ true))
+  pub behind-on : fieldBehind asked t at .cell .right ≡ true → (at < fieldBehind asked t at .stop) × ((fieldBehind asked t at .stop < length t) × (stops (getD t (fieldBehind asked t at .stop) 0) ≡ true))
   behind-on r =
       by-equal (getD t at 0) tab
       (λ q.
-      let h = read-right kind t (at + 1) (sym (behind-tab refl q)) (rw r) in
+      let h = read-right asked t (at + 1) (sym (behind-tab refl q)) (rw r) in
       let low = stop-low t (at + 1) in
       let s = h .1 .0 in
       (omega arith, (omega (arith, h .0), rw s (stop-byte t (at + 1) (h .0)))))
@@ -61,13 +61,13 @@ stops-tab {b} e h =
     (λ q is r. absurd (h (eqb-true b lf r)))
     refl e
 
--- no field of no kind has its form
+-- no field of which nothing is asked has its form
 nothing-wrong : (t : List ℕ) (from : ℕ) → not (fieldAt Nothing t from .cell .right) ≡ true
 unfolding fieldAt fieldWith cellOf
 nothing-wrong t from = by-test (λ (b : Bool). not (pick (both b false) (record { cell = cellOf Nothing (fieldText t from); stop = stopOf t from }) noField .cell .right) ≡ true) (ltb (stopOf t from) (length t)) (λ q. refl) (λ q. refl)
 
 -- a form that has so many fields left has the first of them next
-module _ (form : List Kind) (k : ℕ) {x : Kind} {xs : List Kind} (e : drop k form ≡ x ∷ xs) where
+module _ (form : List Asked) (k : ℕ) {x : Asked} {xs : List Asked} (e : drop k form ≡ x ∷ xs) where
   some-left : k < length form
   some-left = go (decLt k (length form))
     where
@@ -81,10 +81,10 @@ module _ (form : List Kind) (k : ℕ) {x : Kind} {xs : List Kind} (e : drop k fo
   next-left : (x ≡ getD form k Nothing) × (drop (k + 1) form ≡ xs)
   next-left =
       let c = sym e ∙ drop-cons form k Nothing some-left in
-      (ap (λ (l : List Kind). getD l 0 Nothing) c, rw (add-one k) (sym (ap (drop 1) c)))
+      (ap (λ (l : List Asked). getD l 0 Nothing) c, rw (add-one k) (sym (ap (drop 1) c)))
 
 -- All fields of the form are read, and these are their cells.
-pub record Done (letterIn : List ℕ → ℕ) (formOf : ℕ → List Kind) (room : ℕ) (t : List ℕ) (at first letter : ℕ) (start : List Cell) (r : Chain) : Type 0 where
+pub record Done (letterIn : List ℕ → ℕ) (formOf : ℕ → List Asked) (room : ℕ) (t : List ℕ) (at first letter : ℕ) (start : List Cell) (r : Chain) : Type 0 where
   pub cells : List Cell
   pub k : ℕ
   pub all : k ≡ length (formOf letter)
@@ -92,12 +92,12 @@ pub record Done (letterIn : List ℕ → ℕ) (formOf : ℕ → List Kind) (room
   pub are : take k cells ≡ start ++ r .cells
 
 -- a line without its LF, or without the form
-abbrev pub Unformed : List ℕ → ℕ → List Kind → ℕ → Type 0
+abbrev pub Unformed : List ℕ → ℕ → List Asked → ℕ → Type 0
 Unformed t at form first = (length t ≤ nextOf t at lf) ⊎ (hasForm form (fieldsBehind (lineAt t at) (first - at)) ≡ false)
 
-module _ {letterIn : List ℕ → ℕ} {formOf : ℕ → List Kind} {room : ℕ} {t : List ℕ} {at first letter : ℕ} (few : length (formOf letter) ≤ room) where
+module _ {letterIn : List ℕ → ℕ} {formOf : ℕ → List Asked} {room : ℕ} {t : List ℕ} {at first letter : ℕ} (few : length (formOf letter) ≤ room) where
   -- The fields that are left: each has its form, or the line has not.
-  pub chain-done : (ks : List Kind) {cells : List Cell} {k stop : ℕ} → InLine letterIn formOf room t at first letter cells k stop → drop k (formOf letter) ≡ ks → chainBehind ks t stop .right ≡ true → Done letterIn formOf room t at first letter (take k cells) (chainBehind ks t stop)
+  pub chain-done : (ks : List Asked) {cells : List Cell} {k stop : ℕ} → InLine letterIn formOf room t at first letter cells k stop → drop k (formOf letter) ≡ ks → chainBehind ks t stop .right ≡ true → Done letterIn formOf room t at first letter (take k cells) (chainBehind ks t stop)
   unfolding chainBehind cellOf
   chain-done [] {cells} {k} a e r =
       let n = ap length e in
@@ -123,7 +123,7 @@ module _ {letterIn : List ℕ → ℕ} {formOf : ℕ → List Kind} {room : ℕ}
       })
       (λ q. absurd (clash (rights .0) (behind-off x t stop q)))
 
-  pub chain-wrong : (ks : List Kind) {cells : List Cell} {k stop : ℕ} → InLine letterIn formOf room t at first letter cells k stop → drop k (formOf letter) ≡ ks → chainBehind ks t stop .right ≡ false → Unformed t at (formOf letter) first
+  pub chain-wrong : (ks : List Asked) {cells : List Cell} {k stop : ℕ} → InLine letterIn formOf room t at first letter cells k stop → drop k (formOf letter) ≡ ks → chainBehind ks t stop .right ≡ false → Unformed t at (formOf letter) first
   unfolding chainBehind
   chain-wrong [] a e r = absurd (clash refl r)
   chain-wrong (x ∷ xs) {cells} {k} {stop} a e r =
@@ -149,7 +149,7 @@ module _ {letterIn : List ℕ → ℕ} {formOf : ℕ → List Kind} {room : ℕ}
     unfolding fieldAt fieldWith cellOf
     chain-over n =
         let le : length (formOf letter) ≤ d .k = let all = d .all in omega arith in
-        line-bad (d .line) (stops-tab (d .line .ends) n) {kind = Nothing} {f = fieldAt Nothing t (r .stop + 1)} (sym (List·getD-eq-default (formOf letter) Nothing le)) refl (nothing-wrong t (r .stop + 1))
+        line-bad (d .line) (stops-tab (d .line .ends) n) {asked = Nothing} {f = fieldAt Nothing t (r .stop + 1)} (sym (List·getD-eq-default (formOf letter) Nothing le)) refl (nothing-wrong t (r .stop + 1))
 
 -- What is read field by field is the chain of the fields.
 pub written-is : (t : List ℕ) (at : ℕ) {code date mark strike : Field} → code ≡ fieldBehind Code t at → date ≡ fieldBehind Date t (code .stop) → mark ≡ fieldBehind Mark t (date .stop) → strike ≡ fieldBehind Number t (mark .stop) → record { right = both (code .cell .right) (both (date .cell .right) (both (mark .cell .right) (strike .cell .right))); series = seriesOf (code .cell) (date .cell) (mark .cell) (strike .cell); stop = strike .stop } ≡ writtenIn (chainBehind seriesForm t at)
@@ -160,7 +160,7 @@ written-is t at c d m k = rw (k, m, d, c, both-end)
 abbrev pub joined : Chain → Chain → Chain
 joined c d = record { right = both (c .right) (d .right); cells = c .cells ++ d .cells; stop = d .stop }
 
-pub chain-more : (ks ls : List Kind) (t : List ℕ) (at : ℕ) → chainBehind (ks ++ ls) t at ≡ joined (chainBehind ks t at) (chainBehind ls t (chainBehind ks t at .stop))
+pub chain-more : (ks ls : List Asked) (t : List ℕ) (at : ℕ) → chainBehind (ks ++ ls) t at ≡ joined (chainBehind ks t at) (chainBehind ls t (chainBehind ks t at .stop))
 unfolding chainBehind
 chain-more [] ls t at = refl
 chain-more (k ∷ ks) ls t at = rw (chain-more ks ls t (fieldBehind k t at .stop), both-first)

@@ -13,7 +13,7 @@ use Rattle.laws.specs.Truth.{pick, both}
 use Rattle.laws.specs.TruthLaws.{by-test, false-unless}
 use Rattle.laws.specs.Bytes.{sameBytes}
 use Rattle.laws.specs.ByteLaws.{are-same}
-use Rattle.lines.specs.Parts.{tab, one, more, inFront, splitOn, listOf, fieldsOf, indexOf, nextOf}
+use Rattle.lines.specs.Pieces.{tab, one, more, inFront, splitOn, listOf, fieldsOf, indexOf, nextOf}
 
 -- The search: it ends at a c or at the end of the text, and else goes on.
 module _ (t : List ℕ) (i c : ℕ) where

@@ -1,4 +1,4 @@
--- Fields both ways: what is printed in a field reads as itself, and the only field that reads as it is the printed one; for each kind
+-- Fields both ways: what is printed in a field reads as itself, and the only field that reads as it is the printed one; for each of which a form is asked
 -- of field, and for a series.
 use mathlib.Core.Path.{_≡_, refl, ap, sym, subst, _∙_}
 use mathlib.Core.Bool.{Bool, true, false, not}
@@ -28,14 +28,14 @@ use Rattle.series.specs.CheckLaws.{series-parts, series-date}
 use Rattle.series.specs.KeyLaws.{suited-strike}
 use Rattle.digits.specs.Digits.{isDigit, valueOf, isFixed, figureOf, fixed, numerals}
 use Rattle.digits.specs.DigitLaws.{number-trip, number-only, numeral, fixed-trip, fixed-only, fixed-digits}
-use Rattle.lines.specs.declared.Kind.{Kind}
-use Rattle.lines.specs.declared.Kind.the-variants.{Number, Account, Date, Code, Mark}
+use Rattle.lines.specs.declared.Asked.{Asked}
+use Rattle.lines.specs.declared.Asked.the-variants.{Number, Account, Date, Code, Mark}
 use Rattle.lines.specs.declared.Cell.{Cell}
-use Rattle.lines.specs.Parts.{lf}
+use Rattle.lines.specs.Pieces.{lf}
 use Rattle.lines.specs.Fields.{noCode, codeIn, markIn, numberCell, cellOf, hasForm, cellsOf, natureOf, seriesOf}
 use Rattle.lines.specs.Texts.{lettersOf, seriesFields}
 use Rattle.lines.specs.CellLaws.{two-bytes}
-use Rattle.lines.specs.PartLaws.{plain}
+use Rattle.lines.specs.PieceLaws.{plain}
 
 -- Natures.
 nature-trip : (n : Nature) → natureOf (letterOf n) (strikeOf n) ≡ n
@@ -101,8 +101,8 @@ code-plain code =
     (λ p t e k. rw (are-same code (p .code) e) t)
     (unlisted-plain code)
 
--- Fields that are printed, and what they read as: of kinds ks, without tab and LF.
-pub record Reads (ks : List Kind) (fs : List (List ℕ)) (cs : List Cell) : Type 0 where
+-- Fields that are printed, and what they read as: of which ks is asked, without tab and LF.
+pub record Reads (ks : List Asked) (fs : List (List ℕ)) (cs : List Cell) : Type 0 where
   pub form : hasForm ks fs ≡ true
   pub cells : cellsOf ks fs ≡ cs
   pub plain-fields : everyLine plain fs ≡ true
@@ -127,8 +127,8 @@ unfolding figureOf
 figure-is right t n e = rw (e .0, e .1)
 
 -- A printed field in front of others.
-module _ {ks : List Kind} {fs : List (List ℕ)} {cs : List Cell} (r : Reads ks fs cs) where
-  field-reads : (k : Kind) (f : List ℕ) (c : Cell) → c .right ≡ true → cellOf k f ≡ c → plain f ≡ true → Reads (k ∷ ks) (f ∷ fs) (c ∷ cs)
+module _ {ks : List Asked} {fs : List (List ℕ)} {cs : List Cell} (r : Reads ks fs cs) where
+  field-reads : (k : Asked) (f : List ℕ) (c : Cell) → c .right ≡ true → cellOf k f ≡ c → plain f ≡ true → Reads (k ∷ ks) (f ∷ fs) (c ∷ cs)
   unfolding hasForm cellsOf everyLine
   field-reads k f c right is p =
       record {
@@ -141,7 +141,7 @@ module _ {ks : List Kind} {fs : List (List ℕ)} {cs : List Cell} (r : Reads ks 
   unfolding cellOf
   number-reads n h = field-reads Number (numerals n) (numbered n) refl (figure-is _ _ n (number-trip n h)) (digits-plain _ (numeral n (omega arith) .digits))
 
-  fixed-reads : (k : Kind) (w n : ℕ) → cellOf k (fixed w n) ≡ numberCell (figureOf (isFixed w (fixed w n)) (fixed w n)) → w ≤ 9 → n < 10 ^ w → Reads (k ∷ ks) (fixed w n ∷ fs) (numbered n ∷ cs)
+  fixed-reads : (k : Asked) (w n : ℕ) → cellOf k (fixed w n) ≡ numberCell (figureOf (isFixed w (fixed w n)) (fixed w n)) → w ≤ 9 → n < 10 ^ w → Reads (k ∷ ks) (fixed w n ∷ fs) (numbered n ∷ cs)
   fixed-reads k w n is few h = field-reads k (fixed w n) (numbered n) refl (is ∙ figure-is _ _ n (fixed-trip w n few h)) (digits-plain _ (fixed-digits w n))
 
   pub account-reads : (n : ℕ) → n < 10000000 → Reads (Account ∷ ks) (fixed 7 n ∷ fs) (numbered n ∷ cs)
@@ -161,7 +161,7 @@ module _ {ks : List Kind} {fs : List (List ℕ)} {cs : List Cell} (r : Reads ks 
   mark-reads b h = field-reads Mark (b ∷ []) (numbered b) refl refl (both-hold (lt-ltb lf b h) refl)
 
 -- A series that passes its checks.
-pub series-reads : {ks : List Kind} {fs : List (List ℕ)} {cs : List Cell} → Reads ks fs cs → (s : Series) → goodSeries s ≡ true → Reads (Code ∷ Date ∷ Mark ∷ Number ∷ ks) (seriesFields s ++ fs) (spelled (s .code) ∷ numbered (s .date) ∷ numbered (letterOf (s .nature)) ∷ numbered (strikeOf (s .nature)) ∷ cs)
+pub series-reads : {ks : List Asked} {fs : List (List ℕ)} {cs : List Cell} → Reads ks fs cs → (s : Series) → goodSeries s ≡ true → Reads (Code ∷ Date ∷ Mark ∷ Number ∷ ks) (seriesFields s ++ fs) (spelled (s .code) ∷ numbered (s .date) ∷ numbered (letterOf (s .nature)) ∷ numbered (strikeOf (s .nature)) ∷ cs)
 unfolding seriesFields classOf
 series-reads r s e =
     let g = series-parts s e in
@@ -172,12 +172,12 @@ pub series-is : (s : Series) → seriesOf (spelled (s .code)) (numbered (s .date
 unfolding seriesOf
 series-is s = rw (nature-trip (s .nature))
 
--- Fields that have the form of kinds, one by one.
-pub data Formed : List Kind → List (List ℕ) → Type 0 where
+-- Fields that have the form that is asked, one by one.
+pub data Formed : List Asked → List (List ℕ) → Type 0 where
   none : Formed [] []
-  next : {k : Kind} {ks : List Kind} {f : List ℕ} {fs : List (List ℕ)} → cellOf k f .right ≡ true → Formed ks fs → Formed (k ∷ ks) (f ∷ fs)
+  next : {k : Asked} {ks : List Asked} {f : List ℕ} {fs : List (List ℕ)} → cellOf k f .right ≡ true → Formed ks fs → Formed (k ∷ ks) (f ∷ fs)
 
-pub formed : (ks : List Kind) (fs : List (List ℕ)) → hasForm ks fs ≡ true → Formed ks fs
+pub formed : (ks : List Asked) (fs : List (List ℕ)) → hasForm ks fs ≡ true → Formed ks fs
 unfolding hasForm
 formed [] [] e = none
 formed [] (f ∷ fs) e = absurd (clash e refl)

@@ -11,13 +11,12 @@ use Rattle.laws.specs.Text.{byte}
 use Rattle.series.specs.declared.Nature.{Nature}
 use Rattle.series.specs.declared.Nature.the-variants.{Future, Call, Put}
 use Rattle.series.specs.declared.Series.{Series}
-use Rattle.digits.specs.declared.Figure.{Figure}
-use Rattle.digits.specs.Digits.{isNumber, isFixed, figureOf}
-use Rattle.lines.specs.declared.Kind.{Kind}
-use Rattle.lines.specs.declared.Kind.the-variants.{Nothing, Number, Account, Date, Code, Mark}
+use Rattle.digits.specs.Digits.{Figure, isNumber, isFixed, figureOf}
+use Rattle.lines.specs.declared.Asked.{Asked}
+use Rattle.lines.specs.declared.Asked.the-variants.{Nothing, Number, Account, Date, Code, Mark}
 use Rattle.lines.specs.declared.Cell.{Cell}
 use Rattle.lines.specs.declared.Field.{Field}
-use Rattle.lines.specs.Parts.{stopOf}
+use Rattle.lines.specs.Pieces.{stopOf}
 
 abbrev pub noCode : List ℕ
 noCode = 0 ∷ 0 ∷ 0 ∷ []
@@ -33,8 +32,8 @@ markIn f = pick (eqb (length f) 1) (getD f 0 0) 0
 abbrev pub numberCell : Figure → Cell
 numberCell f = record { right = f .right; number = f .number; code = noCode }
 
--- what stands in a field of a kind, and whether it has the form
-unfoldable pub cellOf : Kind → List ℕ → Cell
+-- what stands in a field of which this is asked, and whether it has the form
+unfoldable pub cellOf : Asked → List ℕ → Cell
 cellOf Nothing f = record { right = false; number = 0; code = noCode }
 cellOf Number f = numberCell (figureOf (isNumber f) f)
 cellOf Account f = numberCell (figureOf (isFixed 7 f) f)
@@ -59,23 +58,23 @@ numberField n stop = record { cell = record { right = true; number = n; code = n
 unfoldable pub fieldWith : Cell → List ℕ → ℕ → Field
 fieldWith c t from = pick (both (ltb (stopOf t from) (length t)) (c .right)) (record { cell = c; stop = stopOf t from }) noField
 
--- the field of a kind that begins at from
-unfoldable pub fieldAt : Kind → List ℕ → ℕ → Field
-fieldAt kind t from = fieldWith (cellOf kind (fieldText t from)) t from
+-- the field that begins at from, of which this is asked
+unfoldable pub fieldAt : Asked → List ℕ → ℕ → Field
+fieldAt asked t from = fieldWith (cellOf asked (fieldText t from)) t from
 
 -- a field of digits, by the test of its form
 abbrev pub figureAt : (List ℕ → Bool) → List ℕ → ℕ → Field
 figureAt right t from = fieldWith (numberCell (figureOf (right (fieldText t from)) (fieldText t from))) t from
 
--- the fields are as many as the kinds, and each has its form
-unfoldable pub hasForm : List Kind → List (List ℕ) → Bool
+-- the fields are as many as are asked for, and each has its form
+unfoldable pub hasForm : List Asked → List (List ℕ) → Bool
 hasForm [] [] = true
 hasForm [] (f ∷ fs) = false
 hasForm (k ∷ ks) [] = false
 hasForm (k ∷ ks) (f ∷ fs) = both (cellOf k f .right) (hasForm ks fs)
 
 -- what stands in them
-unfoldable pub cellsOf : List Kind → List (List ℕ) → List Cell
+unfoldable pub cellsOf : List Asked → List (List ℕ) → List Cell
 cellsOf [] fs = []
 cellsOf (k ∷ ks) [] = []
 cellsOf (k ∷ ks) (f ∷ fs) = cellOf k f ∷ cellsOf ks fs

@@ -1,11 +1,11 @@
-pub mod Parts
+pub mod Pieces
 pub mod Fields
 pub mod Texts
 pub mod CutLaws
 pub mod StopLaws
 pub mod RunLaws
 pub mod CellLaws
-pub mod PartLaws
+pub mod PieceLaws
 pub mod FieldLaws
 pub mod LoopLaws
 pub mod Behind

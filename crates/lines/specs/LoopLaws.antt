@@ -14,11 +14,11 @@ use lib.ListN.{getD, length, take, drop, set, length-set, drop-of-length-le, Lis
 use lib.Seq.{append-snoc, drop-cons, take-suc-set, getD-drop}
 use Rattle.laws.specs.Truth.{pick, both}
 use Rattle.laws.specs.TruthLaws.{clash, failed, passed, both-true, both-hold, by-test, false-unless}
-use Rattle.lines.specs.declared.Kind.{Kind}
-use Rattle.lines.specs.declared.Kind.the-variants.{Nothing}
+use Rattle.lines.specs.declared.Asked.{Asked}
+use Rattle.lines.specs.declared.Asked.the-variants.{Nothing}
 use Rattle.lines.specs.declared.Cell.{Cell}
 use Rattle.lines.specs.declared.Field.{Field}
-use Rattle.lines.specs.Parts.{tab, lf, fieldsOf, nextOf, stops, stopOf}
+use Rattle.lines.specs.Pieces.{tab, lf, fieldsOf, nextOf, stops, stopOf}
 use Rattle.lines.specs.Fields.{cellOf, hasForm, cellsOf, fieldText, noField, fieldWith, fieldAt}
 use Rattle.lines.specs.StopLaws.{stops-lf, stop-low, stop-byte, next-from, next-byte, lineAt, line-length, stop-within, stop-in-line, text-in-line}
 use Rattle.lines.specs.CutLaws.{next-here, next-low, next-high, fieldsBehind, field-next, field-more, field-none}
@@ -27,21 +27,18 @@ use Rattle.lines.specs.CutLaws.{next-here, next-low, next-high, fieldsBe
 pub ends-low : (t : List ℕ) (at c : ℕ) {end : ℕ} → end ≡ nextOf t at c → at ≤ end
 ends-low t at c e = let h = next-low t at c in omega arith
 
-pub ends-high : (t : List ℕ) (at c : ℕ) {end : ℕ} → end ≡ nextOf t at c → at ≤ length t → end ≤ length t
-ends-high t at c e low = let h = next-high t at c low in omega arith
-
 pub stops-low : (t : List ℕ) (at : ℕ) {stop : ℕ} → stop ≡ stopOf t at → at ≤ stop
 stops-low t at e = let h = stop-low t at in omega arith
 
 -- The loop over the fields fs behind the letter, with room for so many cells: k of them are read, and the last of these ends at `stop`.
-pub record AtField (room : ℕ) (row : List ℕ) (form : List Kind) (fs : List (List ℕ)) (cells : List Cell) (k stop : ℕ) : Type 0 where
+pub record AtField (room : ℕ) (row : List ℕ) (form : List Asked) (fs : List (List ℕ)) (cells : List Cell) (k stop : ℕ) : Type 0 where
   pub low : stop ≤ length row
   pub few : k ≤ length form
   pub long : length cells ≡ room
   pub formed : hasForm form fs ≡ hasForm (drop k form) (fieldsBehind row stop)
   pub read : take k cells ++ cellsOf (drop k form) (fieldsBehind row stop) ≡ cellsOf form fs
 
-module _ {room : ℕ} {row : List ℕ} {form : List Kind} {fs : List (List ℕ)} {cells : List Cell} {k stop : ℕ} (a : AtField room row form fs cells k stop) where
+module _ {room : ℕ} {row : List ℕ} {form : List Asked} {fs : List (List ℕ)} {cells : List Cell} {k stop : ℕ} (a : AtField room row form fs cells k stop) where
   module _ (lt : stop < length row) {next : ℕ} (is : next ≡ nextOf row (stop + 1) tab) {c : Cell} (cell-is : c ≡ cellOf (getD form k Nothing) (take (next - (stop + 1)) (drop (stop + 1) row))) where
     next-field : fieldsBehind row stop ≡ take (next - (stop + 1)) (drop (stop + 1) row) ∷ fieldsBehind row next
     next-field = field-more row lt ∙ field-next row (stop + 1) (omega arith) is
@@ -65,7 +62,7 @@ module _ {room : ℕ} {row : List ℕ} {form : List Kind} {fs : List (List ℕ)}
           go (yes q) = q
           go (no q) =
               let le : length form ≤ k = omega arith in
-              absurd (clash (passed (ap (λ (z : Cell). z .right) cell-is) e) (ap (λ (kind : Kind). cellOf kind (take (next - (stop + 1)) (drop (stop + 1) row)) .right) (List·getD-eq-default form Nothing le)))
+              absurd (clash (passed (ap (λ (z : Cell). z .right) cell-is) e) (ap (λ (asked : Asked). cellOf asked (take (next - (stop + 1)) (drop (stop + 1) row)) .right) (List·getD-eq-default form Nothing le)))
 
       field-read : length form ≤ room → AtField room row form fs (set cells k c) (k + 1) next
       unfolding hasForm cellsOf
@@ -96,7 +93,7 @@ module _ {room : ℕ} {row : List ℕ} {form : List Kind} {fs : List (List ℕ)}
         (a .formed ∙ rw (field-none row end, drop-of-length-le form le), sym (append-nil (take k cells)) ∙ rw (field-none row end, drop-of-length-le form le) at (a .read))
 
 -- The letter of the row is read, and so many of the fields that its form asks for.
-pub record InFields (letterIn : List ℕ → ℕ) (formOf : ℕ → List Kind) (room : ℕ) (row : List ℕ) (first letter : ℕ) (cells : List Cell) (k stop : ℕ) : Type 0 where
+pub record InFields (letterIn : List ℕ → ℕ) (formOf : ℕ → List Asked) (room : ℕ) (row : List ℕ) (first letter : ℕ) (cells : List Cell) (k stop : ℕ) : Type 0 where
   pub first-is : first ≡ nextOf row 0 tab
   pub letter-is : letter ≡ letterIn (take (first - 0) (drop 0 row))
   pub fields : AtField room row (formOf letter) (fieldsBehind row first) cells k stop
@@ -105,16 +102,16 @@ pub record InFields (letterIn : List ℕ → ℕ) (formOf : ℕ → List Kind) (
 pub row-fields : (row : List ℕ) {first : ℕ} → first ≡ nextOf row 0 tab → fieldsOf row ≡ take (first - 0) (drop 0 row) ∷ fieldsBehind row first
 row-fields row is = field-next row 0 (omega arith) is
 
-module _ {letterIn : List ℕ → ℕ} {formOf : ℕ → List Kind} {room : ℕ} where
+module _ {letterIn : List ℕ → ℕ} {formOf : ℕ → List Asked} {room : ℕ} where
   fields-begin : (row : List ℕ) {first letter : ℕ} (cells : List Cell) → first ≡ nextOf row 0 tab → letter ≡ letterIn (take (first - 0) (drop 0 row)) → length cells ≡ room → InFields letterIn formOf room row first letter cells 0 first
   fields-begin row cells is l long =
       let high = next-high row 0 tab (omega arith) in
       record { first-is = is; letter-is = l; fields = record { low = omega arith; few = omega arith; long = long; formed = refl; read = refl } }
 
   module _ {row : List ℕ} {first letter : ℕ} {cells : List Cell} {k stop : ℕ} (a : InFields letterIn formOf room row first letter cells k stop) where
-    module _ (lt : stop < length row) {next : ℕ} (is : next ≡ nextOf row (stop + 1) tab) {kind : Kind} {c : Cell} (kind-is : kind ≡ getD (formOf letter) k Nothing) (cell-is : c ≡ cellOf kind (take (next - (stop + 1)) (drop (stop + 1) row))) where
+    module _ (lt : stop < length row) {next : ℕ} (is : next ≡ nextOf row (stop + 1) tab) {asked : Asked} {c : Cell} (asked-is : asked ≡ getD (formOf letter) k Nothing) (cell-is : c ≡ cellOf asked (take (next - (stop + 1)) (drop (stop + 1) row))) where
       whole : c ≡ cellOf (getD (formOf letter) k Nothing) (take (next - (stop + 1)) (drop (stop + 1) row))
-      whole = cell-is ∙ ap (λ (z : Kind). cellOf z (take (next - (stop + 1)) (drop (stop + 1) row))) kind-is
+      whole = cell-is ∙ ap (λ (z : Asked). cellOf z (take (next - (stop + 1)) (drop (stop + 1) row))) asked-is
 
       -- A field without its form: the row has not the form.
       row-bad : not (c .right) ≡ true → hasForm (formOf letter) (fieldsBehind row first) ≡ false
@@ -137,35 +134,35 @@ module _ {letterIn : List ℕ → ℕ} {formOf : ℕ → List Kind} {room : ℕ}
       row-done e = fields-done (a .fields) end e
 
 -- What is read of a field, and why nothing is.
-module _ (kind : Kind) (t : List ℕ) (from : ℕ) {f : Field} (is : f ≡ fieldAt kind t from) where
-  is-with : (b : Bool) → both (ltb (stopOf t from) (length t)) (cellOf kind (fieldText t from) .right) ≡ b → f ≡ pick b (record { cell = cellOf kind (fieldText t from); stop = stopOf t from }) noField
+module _ (asked : Asked) (t : List ℕ) (from : ℕ) {f : Field} (is : f ≡ fieldAt asked t from) where
+  is-with : (b : Bool) → both (ltb (stopOf t from) (length t)) (cellOf asked (fieldText t from) .right) ≡ b → f ≡ pick b (record { cell = cellOf asked (fieldText t from); stop = stopOf t from }) noField
   unfolding fieldAt fieldWith
   is-with b e = is ∙ rw e
 
-  pub read-right : not (f .cell .right) ≡ false → (stopOf t from < length t) × ((f .stop ≡ stopOf t from) × (f .cell ≡ cellOf kind (fieldText t from)))
+  pub read-right : not (f .cell .right) ≡ false → (stopOf t from < length t) × ((f .stop ≡ stopOf t from) × (f .cell ≡ cellOf asked (fieldText t from)))
   unfolding cellOf
   read-right e =
-      by-test (λ (b : Bool). both (ltb (stopOf t from) (length t)) (cellOf kind (fieldText t from) .right) ≡ b → (stopOf t from < length t) × ((f .stop ≡ stopOf t from) × (f .cell ≡ cellOf kind (fieldText t from)))) _
+      by-test (λ (b : Bool). both (ltb (stopOf t from) (length t)) (cellOf asked (fieldText t from) .right) ≡ b → (stopOf t from < length t) × ((f .stop ≡ stopOf t from) × (f .cell ≡ cellOf asked (fieldText t from)))) _
       (λ q h. let g = is-with true h in (ltb-true _ _ (both-true (ltb (stopOf t from) (length t)) _ h .0), (ap (λ (z : Field). z .stop) g, ap (λ (z : Field). z .cell) g)))
       (λ q h. absurd (clash (passed (ap (λ (z : Field). z .cell .right) (is-with false h)) e) refl))
       refl
 
-  read-wrong : not (f .cell .right) ≡ true → (length t ≤ stopOf t from) ⊎ (cellOf kind (fieldText t from) .right ≡ false)
+  read-wrong : not (f .cell .right) ≡ true → (length t ≤ stopOf t from) ⊎ (cellOf asked (fieldText t from) .right ≡ false)
   read-wrong e =
-      by-test (λ (b : Bool). ltb (stopOf t from) (length t) ≡ b → (length t ≤ stopOf t from) ⊎ (cellOf kind (fieldText t from) .right ≡ false)) (ltb (stopOf t from) (length t))
+      by-test (λ (b : Bool). ltb (stopOf t from) (length t) ≡ b → (length t ≤ stopOf t from) ⊎ (cellOf asked (fieldText t from) .right ≡ false)) (ltb (stopOf t from) (length t))
       (λ q h. inr (false-unless _ (λ r. clash (ap (λ (z : Field). z .cell .right) (is-with true (both-hold h r)) ∙ r) (not-true _ e))))
       (λ q h. inl (ltb-false _ _ h))
       refl
 
 -- In the text: the line begins at `at`, and the last field that is read ends at stop, where a tab or LF stands.
-pub record InLine (letterIn : List ℕ → ℕ) (formOf : ℕ → List Kind) (room : ℕ) (t : List ℕ) (at first letter : ℕ) (cells : List Cell) (k stop : ℕ) : Type 0 where
+pub record InLine (letterIn : List ℕ → ℕ) (formOf : ℕ → List Asked) (room : ℕ) (t : List ℕ) (at first letter : ℕ) (cells : List Cell) (k stop : ℕ) : Type 0 where
   pub begins : at ≤ stop
   pub inside : stop < length t
   pub within-line : stop ≤ nextOf t at lf
   pub ends : stops (getD t stop 0) ≡ true
   pub fields : InFields letterIn formOf room (lineAt t at) (first - at) letter cells k (stop - at)
 
-module _ {letterIn : List ℕ → ℕ} {formOf : ℕ → List Kind} {room : ℕ} where
+module _ {letterIn : List ℕ → ℕ} {formOf : ℕ → List Asked} {room : ℕ} where
   pub line-begins : (t : List ℕ) (at : ℕ) {stop letter : ℕ} (cells : List Cell) → stop ≡ stopOf t at → stop < length t → letter ≡ letterIn (take (stop - at) (drop at t)) → length cells ≡ room → InLine letterIn formOf room t at stop letter cells 0 stop
   line-begins t at {stop} cells is lt l long =
       let low = stops-low t at is in
@@ -200,7 +197,7 @@ module _ {letterIn : List ℕ → ℕ} {formOf : ℕ → List Kind} {room : ℕ}
       tab-inside : stop - at < length (lineAt t at)
       tab-inside = let h = tab-before in let l = line-length t at line-low in let b = a .begins in omega arith
 
-      module _ {kind : Kind} {f : Field} (kind-is : kind ≡ getD (formOf letter) k Nothing) (is : f ≡ fieldAt kind t (stop + 1)) where
+      module _ {asked : Asked} {f : Field} (asked-is : asked ≡ getD (formOf letter) k Nothing) (is : f ≡ fieldAt asked t (stop + 1)) where
         from-is : stop + 1 - at ≡ stop - at + 1
         from-is = let b = a .begins in omega arith
 
@@ -218,25 +215,25 @@ module _ {letterIn : List ℕ → ℕ} {formOf : ℕ → List Kind} {room : ℕ}
 
         -- Each field leaves less of the text, and each ends inside it.
         pub stop-less : not (f .cell .right) ≡ false → length t - f .stop < length t - stop
-        stop-less e = let r = read-right kind t (stop + 1) is e in let s = r .1 .0 in let h = r .0 in let l = stop-low t (stop + 1) in omega arith
+        stop-less e = let r = read-right asked t (stop + 1) is e in let s = r .1 .0 in let h = r .0 in let l = stop-low t (stop + 1) in omega arith
 
         -- A field without its form: the line has not the form, or no LF.
         pub line-bad : not (f .cell .right) ≡ true → (length t ≤ nextOf t at lf) ⊎ (hasForm (formOf letter) (fieldsBehind (lineAt t at) (first - at)) ≡ false)
         line-bad e =
             ⊎-elim (λ h. inl (let w = stop-within t at low high in omega arith))
-            (λ r. inr (row-bad (a .fields) tab-inside stop-is {c = cellOf kind (fieldText t (stop + 1))} kind-is (ap (cellOf kind) text-is) (rw r)))
-            (read-wrong kind t (stop + 1) is e)
+            (λ r. inr (row-bad (a .fields) tab-inside stop-is {c = cellOf asked (fieldText t (stop + 1))} asked-is (ap (cellOf asked) text-is) (rw r)))
+            (read-wrong asked t (stop + 1) is e)
 
         module _ (few : length (formOf letter) ≤ room) (e : not (f .cell .right) ≡ false) where
-          cell-is : f .cell ≡ cellOf kind (take (stopOf t (stop + 1) - at - (stop - at + 1)) (drop (stop - at + 1) (lineAt t at)))
-          cell-is = read-right kind t (stop + 1) is e .1 .1 ∙ ap (cellOf kind) text-is
+          cell-is : f .cell ≡ cellOf asked (take (stopOf t (stop + 1) - at - (stop - at + 1)) (drop (stop - at + 1) (lineAt t at)))
+          cell-is = read-right asked t (stop + 1) is e .1 .1 ∙ ap (cellOf asked) text-is
 
           pub line-room : k < room
-          line-room = cell-room (a .fields) tab-inside stop-is kind-is cell-is few e
+          line-room = cell-room (a .fields) tab-inside stop-is asked-is cell-is few e
 
           pub line-on : InLine letterIn formOf room t at first letter (set cells k (f .cell)) (k + 1) (f .stop)
           line-on =
-              let r = read-right kind t (stop + 1) is e in
+              let r = read-right asked t (stop + 1) is e in
               let s = r .1 .0 in
               let l = stop-low t (stop + 1) in
               let b = a .begins in
@@ -245,7 +242,7 @@ module _ {letterIn : List ℕ → ℕ} {formOf : ℕ → List Kind} {room : ℕ}
                 inside = rw s (r .0);
                 within-line = rw s (stop-within t at low high);
                 ends = rw s (stop-byte t (stop + 1) (r .0));
-                fields = rw s (fields-on (a .fields) tab-inside stop-is kind-is cell-is few e);
+                fields = rw s (fields-on (a .fields) tab-inside stop-is asked-is cell-is few e);
               }
 
     -- Where no tab stands, an LF does, and the line ends.

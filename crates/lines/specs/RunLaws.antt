@@ -17,13 +17,12 @@ use Rattle.laws.specs.TruthLaws.{both-true, both-hold, by-test, within-true, cl
 use Rattle.laws.specs.Text.{byte}
 use Rattle.laws.specs.Search.{everyLine}
 use Rattle.laws.specs.SearchLaws.{every-at, every-joined}
-use Rattle.digits.specs.declared.Figure.{Figure}
-use Rattle.digits.specs.Digits.{isDigit, valueFrom, valueOf, noLeadingZero, isNumber, isFixed, figureOf}
+use Rattle.digits.specs.Digits.{Figure, isDigit, valueFrom, valueOf, noLeadingZero, isNumber, isFixed, figureOf}
 use Rattle.digits.specs.FigureLaws.{few-digits, number-empty, number-long, number-zero, number-one, number-more, fixed-other, fixed-right}
-use Rattle.lines.specs.declared.Kind.{Kind}
-use Rattle.lines.specs.declared.Kind.the-variants.{Nothing, Code, Mark}
+use Rattle.lines.specs.declared.Asked.{Asked}
+use Rattle.lines.specs.declared.Asked.the-variants.{Nothing, Code, Mark}
 use Rattle.lines.specs.declared.Cell.{Cell}
-use Rattle.lines.specs.Parts.{tab, lf, stops, fieldLength, stopOf, stopsAt}
+use Rattle.lines.specs.Pieces.{tab, lf, stops, fieldLength, stopOf, stopsAt}
 use Rattle.lines.specs.Fields.{codeIn, markIn, cellOf, fieldText, noField, numberField, fieldWith, fieldAt, figureAt}
 use Rattle.lines.specs.StopLaws.{other-not, stop-low}
 
@@ -309,9 +308,9 @@ module _ {t : List ℕ} {from width v stop : ℕ} (r : RunIs t from width v stop
 
 -- A field of a code or a mark, which any bytes may be.
 module _ (t : List ℕ) (from : ℕ) {stop : ℕ} (is : stop ≡ stopOf t from) where
-  pub text-ends : (kind : Kind) → length t ≤ stop → noField ≡ fieldAt kind t from
+  pub text-ends : (asked : Asked) → length t ≤ stop → noField ≡ fieldAt asked t from
   unfolding fieldAt
-  text-ends kind h = field-none _ t from (λ lt. absurd (omega arith))
+  text-ends asked h = field-none _ t from (λ lt. absurd (omega arith))
 
   module _ (lt : stop < length t) where
     pub code-field : {code : List ℕ} → code ≡ codeIn (take (stop - from) (drop from t)) → record { cell = record { right = true; number = 0; code = code }; stop = stop } ≡ fieldAt Code t from
@@ -322,7 +321,7 @@ module _ (t : List ℕ) (from : ℕ) {stop : ℕ} (is : stop ≡ stopOf t from) 
     unfolding fieldAt cellOf
     mark-field e = rw (e, is) (field-some (cellOf Mark (fieldText t from)) t from (rw (← is) lt) refl)
 
--- No field begins behind the end of the text, and none is of no kind.
+-- No field begins behind the end of the text, and none has a form where nothing is asked.
 pub field-behind : (c : Cell) (t : List ℕ) (from : ℕ) → length t < from → noField ≡ fieldWith c t from
 field-behind c t from h = field-none c t from (λ lt. let s = stop-low t from in absurd (omega arith))
 

@@ -11,7 +11,7 @@ use lib.ListN.{getD, length, take, drop, drop-of-length-le, length-drop, length-
 use lib.Seq.{drop-cons, drop-drop, getD-drop, take-take}
 use Rattle.laws.specs.Truth.{pick, either}
 use Rattle.laws.specs.TruthLaws.{by-test}
-use Rattle.lines.specs.Parts.{tab, lf, indexOf, nextOf, stops, fieldLength, stopOf}
+use Rattle.lines.specs.Pieces.{tab, lf, indexOf, nextOf, stops, fieldLength, stopOf}
 use Rattle.lines.specs.CutLaws.{next-high}
 
 -- A byte that ends a field, and one that does not.

@@ -7,7 +7,7 @@ use Rattle.laws.specs.Truth.{pick}
 use Rattle.series.specs.declared.Series.{Series}
 use Rattle.series.specs.Natures.{letterOf, strikeOf}
 use Rattle.digits.specs.Digits.{fixed, numerals}
-use Rattle.lines.specs.Parts.{tab, lf}
+use Rattle.lines.specs.Pieces.{tab, lf}
 
 -- fields, each behind a tab
 unfoldable pub tabbed : List (List ℕ) → List ℕ

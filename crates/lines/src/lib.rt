@@ -4,17 +4,16 @@ ghost use Prim.Native.Nat.{_≤_, _<_};
 ghost use lib.ListN.{length, getD};
 ghost use Rattle.laws.specs.Bytes.{sameBytes};
 ghost use Rattle.digits.specs.Digits.{isFixed};
-ghost use Rattle.lines.specs.declared.Kind.the-variants.{Number, Account, Date, Code, Mark};
-ghost use Rattle.lines.specs.Parts.{nextOf, stopOf, stopsAt};
-ghost use Rattle.lines.specs.Fields.{codeIn, markIn, numberCell, noCell, cellOf, noField, numberField, fieldAt, figureAt, natureOf, seriesOf};
+ghost use Rattle.lines.specs.declared.Asked.the-variants.{Number, Account, Date, Code, Mark};
+ghost use Rattle.lines.specs.Pieces.{nextOf, stopOf, stopsAt};
+ghost use Rattle.lines.specs.Fields.{codeIn, markIn, noCell, noField, numberField, fieldAt, figureAt, natureOf, seriesOf};
 ghost use Rattle.lines.specs.Behind.{fieldBehind, chainBehind, seriesForm, writtenIn};
 ghost use Rattle.lines.specs.RunLaws.{RunIs};
-use digits::Figure;
 use series::Nature;
 use series::Series;
 
 // What the form of a line asks of a field.
-pub enum Kind {
+pub enum Asked {
     Nothing,
     Number,
     Account,
@@ -101,17 +100,7 @@ fn mark_in(t: &[u8]) -> u32
     if t.len() == 1 { t[0] as u32 } else { 0 }
 }
 
-fn number_cell(f: Figure) -> Cell
-    ensures { λ r. ⌜ r ≡ numberCell f ⌝ }
-{
-    Cell {
-        right: f.right,
-        number: f.number,
-        code: [0, 0, 0],
-    }
-}
-
-// What stands in a field of no kind.
+// What stands in a field of which nothing is asked.
 pub fn no_cell() -> Cell
     ensures { λ r. ⌜ r ≡ noCell ⌝ }
 {
@@ -119,28 +108,6 @@ pub fn no_cell() -> Cell
         right: false,
         number: 0,
         code: [0, 0, 0],
-    }
-}
-
-// What stands in a field of a kind.
-pub fn cell_of(kind: Kind, t: &[u8]) -> Cell
-    ensures { λ r. ⌜ r ≡ cellOf kind (now (t .entry)) ⌝ }
-{
-    match kind {
-        Kind::Nothing => no_cell(),
-        Kind::Number => number_cell(digits::read_number(t)),
-        Kind::Account => number_cell(digits::read_fixed(t, 7)),
-        Kind::Date => number_cell(digits::read_fixed(t, 8)),
-        Kind::Code => Cell {
-            right: true,
-            number: 0,
-            code: code_in(t),
-        },
-        Kind::Mark => Cell {
-            right: true,
-            number: mark_in(t),
-            code: [0, 0, 0],
-        },
     }
 }
 
@@ -219,7 +186,7 @@ fn run_at(t: &[u8], from: usize, most: usize) -> Run
     Run { number, stop }
 }
 
-// The number field that begins at `from`, if it has its form and a tab or LF stands behind it; so the fields of the other kinds.
+// The number field that begins at `from`, if it has its form and a tab or LF stands behind it; so the other fields.
 pub fn number_at(t: &[u8], from: usize) -> Field
     ensures { λ r. ⌜ r ≡ fieldAt Number (now (t .entry)) from ⌝ }
 {
@@ -261,7 +228,7 @@ fn fixed_at(t: &[u8], from: usize, width: usize) -> Field
     number_field(r.number, stop)
 }
 
-pub fn account_at(t: &[u8], from: usize) -> Field
+fn account_at(t: &[u8], from: usize) -> Field
     ensures { λ r. ⌜ r ≡ fieldAt Account (now (t .entry)) from ⌝ }
 {
     fixed_at(t, from, 7)
@@ -290,7 +257,7 @@ pub fn code_at(t: &[u8], from: usize) -> Field
     }
 }
 
-pub fn mark_at(t: &[u8], from: usize) -> Field
+fn mark_at(t: &[u8], from: usize) -> Field
     ensures { λ r. ⌜ r ≡ fieldAt Mark (now (t .entry)) from ⌝ }
 {
     let stop = stop_of(t, from);
@@ -337,60 +304,38 @@ fn byte_at(t: &[u8], i: usize) -> u8
     if i < t.len() { t[i] } else { 0 }
 }
 
-// The number field behind the tab at `at`; so the fields of the other kinds.
-pub fn number_behind(t: &[u8], at: usize) -> Field
-    ensures { λ r. ⌜ r ≡ fieldBehind Number (now (t .entry)) at ⌝ }
+// The field that begins at `from`, of which this is asked.
+pub fn field_at(asked: Asked, t: &[u8], from: usize) -> Field
+    ensures { λ r. ⌜ r ≡ fieldAt asked (now (t .entry)) from ⌝ }
 {
-    if byte_at(t, at) != b'\t' {
-        return no_field();
+    match asked {
+        Asked::Nothing => no_field(),
+        Asked::Number => number_at(t, from),
+        Asked::Account => account_at(t, from),
+        Asked::Date => date_at(t, from),
+        Asked::Code => code_at(t, from),
+        Asked::Mark => mark_at(t, from),
     }
-    number_at(t, at + 1)
 }
 
-pub fn account_behind(t: &[u8], at: usize) -> Field
-    ensures { λ r. ⌜ r ≡ fieldBehind Account (now (t .entry)) at ⌝ }
+// The field behind the tab at `at`, of which this is asked.
+pub fn field_behind(asked: Asked, t: &[u8], at: usize) -> Field
+    ensures { λ r. ⌜ r ≡ fieldBehind asked (now (t .entry)) at ⌝ }
 {
     if byte_at(t, at) != b'\t' {
         return no_field();
     }
-    account_at(t, at + 1)
-}
-
-pub fn date_behind(t: &[u8], at: usize) -> Field
-    ensures { λ r. ⌜ r ≡ fieldBehind Date (now (t .entry)) at ⌝ }
-{
-    if byte_at(t, at) != b'\t' {
-        return no_field();
-    }
-    date_at(t, at + 1)
-}
-
-fn code_behind(t: &[u8], at: usize) -> Field
-    ensures { λ r. ⌜ r ≡ fieldBehind Code (now (t .entry)) at ⌝ }
-{
-    if byte_at(t, at) != b'\t' {
-        return no_field();
-    }
-    code_at(t, at + 1)
-}
-
-pub fn mark_behind(t: &[u8], at: usize) -> Field
-    ensures { λ r. ⌜ r ≡ fieldBehind Mark (now (t .entry)) at ⌝ }
-{
-    if byte_at(t, at) != b'\t' {
-        return no_field();
-    }
-    mark_at(t, at + 1)
+    field_at(asked, t, at + 1)
 }
 
 // The series that the four fields behind the tab at `at` write.
 pub fn series_behind(t: &[u8], at: usize) -> Written
     ensures { λ r. ⌜ r ≡ writtenIn (chainBehind seriesForm (now (t .entry)) at) ⌝ }
 {
-    let code = code_behind(t, at);
-    let date = date_behind(t, code.stop);
-    let mark = mark_behind(t, date.stop);
-    let strike = number_behind(t, mark.stop);
+    let code = field_behind(Asked::Code, t, at);
+    let date = field_behind(Asked::Date, t, code.stop);
+    let mark = field_behind(Asked::Mark, t, date.stop);
+    let strike = field_behind(Asked::Number, t, mark.stop);
     let c = code.cell;
     let d = date.cell;
     let m = mark.cell;

@@ -17,11 +17,12 @@ use Rattle.series.specs.Natures.{letterOf, strikeOf}
 use Rattle.digits.specs.Digits.{fixed, numerals}
 use Rattle.put.specs.Put.{endOf}
 use Rattle.put.specs.PutLaws.{Put, put-then, put-none, byte-laid, length-laid}
-use Rattle.lines.specs.Parts.{tab, lf}
+use Rattle.lines.specs.Pieces.{tab, lf}
 use Rattle.lines.specs.Texts.{tabbed, lineText, lettersOf, seriesFields}
 use Rattle.printed.specs.Printed.{textsOf}
 use Rattle.printed.specs.PartLaws.{fixed-rest, fixed-parts, numerals-parts, one-digit, two-numerals, two-digits}
-use Rattle.printed.specs.PrintedLaws.{field-laid, fields-then, line-laid, texts-last}
+use Rattle.put.specs.LineLaws.{field-laid, fields-then, line-laid}
+use Rattle.printed.specs.PrintedLaws.{texts-last}
 
 -- p was laid over d from at on: e is the buffer behind it, r the place behind p, at most so many bytes further.
 pub record Placed (d : List ℕ) (at : ℕ) (p e : List ℕ) (r most : ℕ) : Type 0 where

@@ -1,4 +1,4 @@
--- Laws of the printer: fields and lines laid one behind the other, the rows' loops, and that the text of a sound book fits the buffer.
+-- Laws of the printer: the rows' loops, and that the text of a sound book fits the buffer.
 use mathlib.Core.Path.{_≡_, refl, sym, _∙_, ap}
 use mathlib.Core.Bool.{Bool, true, false}
 use mathlib.Core.List.{List, [], _∷_, _++_, append-assoc, append-nil}
@@ -29,27 +29,9 @@ use Rattle.digits.specs.Digits.{fixed, numerals}
 use Rattle.digits.specs.FigureLaws.{length-fixed, numerals-few}
 use Rattle.put.specs.Put.{endOf}
 use Rattle.put.specs.PutLaws.{Put, put-then, laid-start, length-laid}
-use Rattle.lines.specs.Parts.{tab, lf}
-use Rattle.lines.specs.Texts.{tabbed, lineText, lettersOf, seriesFields}
+use Rattle.put.specs.LineLaws.{field-fits, last-fits, fields-fit, line-fits, fixed-few}
+use Rattle.lines.specs.Texts.{tabbed, lettersOf, seriesFields}
 use Rattle.printed.specs.Printed.{headText, holdingText, pairText, textsOf, textOf, printChecks, printAnswer, printExit}
-
--- Fields, and a line of them.
-
-tabbed-two : (fs gs : List (List ℕ)) → tabbed (fs ++ gs) ≡ tabbed fs ++ tabbed gs
-unfolding tabbed
-tabbed-two [] gs = refl
-tabbed-two (f ∷ fs) gs = rw (tabbed-two fs gs) (ap (λ (l : List ℕ). tab ∷ l) (sym (append-assoc f (tabbed fs) (tabbed gs))))
-
-pub field-laid : {d e f g : List ℕ} {at r u : ℕ} → Put d at (tab ∷ []) e r → Put e r f g u → Put d at (tabbed (f ∷ [])) g u
-unfolding tabbed
-field-laid {f = f} a b = rw (append-nil f) (put-then a b)
-
-pub fields-then : {d e f : List ℕ} {at r u : ℕ} (fs gs : List (List ℕ)) → Put d at (tabbed fs) e r → Put e r (tabbed gs) f u → Put d at (tabbed (fs ++ gs)) f u
-fields-then fs gs a b = rw (tabbed-two fs gs) (put-then a b)
-
-pub line-laid : {d e f g : List ℕ} {letter at r u w : ℕ} (fs : List (List ℕ)) → Put d at (letter ∷ []) e r → Put e r (tabbed fs) f u → Put f u (lf ∷ []) g w → Put d at (lineText letter fs) g w
-unfolding lineText
-line-laid fs a b c = put-then a (put-then b c)
 
 -- The text of a row more.
 pub texts-last : {A : Type 0} (text : A → List ℕ) (l : List A) (x : A) → textsOf text (l ++ (x ∷ [])) ≡ textsOf text l ++ text x
@@ -62,22 +44,7 @@ pub book-laid : {d e f g : List ℕ} {at r u w : ℕ} (b : Book) → Put d at (h
 unfolding textOf holdingsOf pairsOf
 book-laid b h k l = put-then h (put-then k l)
 
--- How long fields, lines and rows can be.
-
-pub field-fits : {m n : ℕ} (f : List ℕ) (fs : List (List ℕ)) → length f ≤ m → length (tabbed fs) ≤ n → length (tabbed (f ∷ fs)) ≤ suc (m + n)
-unfolding tabbed
-field-fits f fs h k = rw (length-append f (tabbed fs)) (omega arith)
-
-pub last-fits : {m : ℕ} (f : List ℕ) → length f ≤ m → length (tabbed (f ∷ [])) ≤ suc m
-unfolding tabbed
-last-fits f h = rw (append-nil f) (omega arith)
-
-fields-fit : {m n : ℕ} (fs gs : List (List ℕ)) → length (tabbed fs) ≤ m → length (tabbed gs) ≤ n → length (tabbed (fs ++ gs)) ≤ m + n
-fields-fit fs gs h k = rw (tabbed-two fs gs, length-append (tabbed fs) (tabbed gs)) (omega arith)
-
-pub line-fits : {n : ℕ} (letter : ℕ) (fs : List (List ℕ)) → length (tabbed fs) ≤ n → length (lineText letter fs) ≤ n + 2
-unfolding lineText
-line-fits letter fs h = rw (length-append (tabbed fs) (lf ∷ [])) (omega arith)
+-- How long rows can be.
 
 letters-few : (code : List ℕ) → ThreeBytes code → length (lettersOf code) ≤ 3
 unfolding lettersOf
@@ -85,9 +52,6 @@ letters-few code t =
     picked (λ (l : List ℕ). length l ≤ 3) (eqb (getD code 2 0) 0) (take 2 code) code
     (λ _. rw (length-take 2 code) (omega arith))
     (λ _. omega (arith, t .three))
-
-pub fixed-few : (w n : ℕ) → length (fixed w n) ≤ w
-fixed-few w n = omega (arith, length-fixed w n)
 
 series-fits : (s : Series) → goodSeries s ≡ true → length (tabbed (seriesFields s)) ≤ 26
 unfolding seriesFields

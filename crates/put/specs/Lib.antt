@@ -1,2 +1,4 @@
 pub mod Put
 pub mod PutLaws
+pub mod Output
+pub mod LineLaws

@@ -3,7 +3,8 @@ use mathlib.Core.Path.{_≡_, refl, sym, _∙_}
 use mathlib.Core.Bool.{Bool, true, false}
 use mathlib.Core.List.{List}
 use Prim.Native.Nat.{ℕ}
-use lib.Dec.{eqb, leb}
+use native.Mathlib.Omega.{arith}
+use lib.Dec.{eqb, leb, lit≤}
 use lib.ListN.{getD}
 use Rattle.laws.specs.Truth.{pick, both}
 use Rattle.laws.specs.TruthLaws.{clash, both-true, both-hold, both-end, picked}
@@ -21,19 +22,23 @@ use Rattle.series.specs.declared.Nature.the-variants.{Future, Call, Put}
 use Rattle.series.specs.Natures.{isCall, strikeOf}
 use Rattle.series.specs.Checks.{strikeFits, suits, classOf, goodSeries}
 use Rattle.series.specs.CheckLaws.{series-parts}
+use Rattle.levels.specs.declared.Levels.{Levels}
 use Rattle.levels.specs.Levels.{flat, fixedLevels}
 use Rattle.levels.specs.Ranges.{AtMost, levelsFit, clearingFits, partFits, fixedFits}
-use Rattle.levels.specs.RangeLaws.{levels-are}
+use Rattle.levels.specs.RangeLaws.{levels-are, at-most-more}
+use Rattle.levels.specs.LevelLaws.{fixed-most}
 use Rattle.amounts.specs.declared.Lot.{Lot}
 use Rattle.amounts.specs.Lines.{indexFits, stockFits, optionFits, futureAsked, indexAsked, stockAsked, termsAsked}
+use Rattle.amounts.specs.LineLaws.{stock-is, future-asked-is}
+use Rattle.amounts.specs.AmountLaws.{future-most}
 use Rattle.amounts.specs.Lots.{refusedLot, fixedFuture, stockFuture, indexOption, stockOption}
 use Rattle.units.specs.Limits.{lotLimit, lotFits, termsFit}
 use Rattle.units.specs.LimitLaws.{lot-is}
 use Rattle.units.specs.UnitLaws.{fixed-lot, stock-future-lot, index-lot, stock-lot, index-terms-taken, stock-terms-taken}
 use Rattle.sheets.specs.declared.Found.{Found}
-use Rattle.quotes.specs.View.{View, saying}
+use Rattle.sheets.specs.View.{View, saying}
 use Rattle.quotes.specs.declared.Quote.{Quote}
-use Rattle.quotes.specs.Quotes.{byClass, clearingStands, priceStands, onSheet, ownLine, lotLines, tenthLines, clearingSaid, priceSaid, lotAs, noTerms, termsAs, quoteAs, quoteOf}
+use Rattle.quotes.specs.Quotes.{byClass, clearingStands, priceStands, onSheet, ownLine, lotLines, parentLines, clearingSaid, priceSaid, lotAs, noTerms, termsAs, quoteAs, quoteOf}
 
 -- By the class: what holds of each holds.
 each-class : (P : Class → Type 0) (c : Class) → P Unknown → P ListedFuture → P ListedOption → P StockFuture → P StockOption → P c
@@ -49,7 +54,7 @@ classed p c = record { code = p .code; class = c; parent = p .parent; part = p .
 
 -- A quote is of what the sheet says of the parent, the code, the stock and the price, and of nothing else.
 pub quote-said : (v : View) (p : Product) (s : Series) → quoteAs (saying (v .clearing (p .parent)) (v .index (s .code)) (v .stock (p .parent)) (v .price s)) p s ≡ quoteAs v p s
-unfolding saying onSheet ownLine lotLines tenthLines clearingSaid priceSaid lotAs termsAs quoteAs everyLine
+unfolding saying onSheet ownLine lotLines parentLines clearingSaid priceSaid lotAs termsAs quoteAs everyLine
 quote-said v p s =
     each-class (λ (c : Class). quoteAs (saying (v .clearing (p .parent)) (v .index (s .code)) (v .stock (p .parent)) (v .price s)) (classed p c) s ≡ quoteAs v (classed p c) s) (p .class) refl refl refl refl refl
 
@@ -69,13 +74,13 @@ worked v p s =
     record {
       lined = own;
       ready = both own (byClass (p .class) true true q q q);
-      tenth = byClass (p .class) true true f true true;
+      timed = byClass (p .class) true true f true true;
       lot = lotAs v p s;
       terms = termsAs v p s;
     }
 
 pub quote-worked : (v : View) (p : Product) (s : Series) → worked v p s ≡ quoteAs v p s
-unfolding onSheet ownLine lotLines tenthLines quoteAs everyLine
+unfolding onSheet ownLine lotLines parentLines quoteAs everyLine
 quote-worked v p s =
     each-class (λ (c : Class). worked v (classed p c) s ≡ quoteAs v (classed p c) s) (p .class) refl (simp both-end) (simp both-end) (simp both-end) (simp both-end)
 
@@ -100,6 +105,22 @@ lot-most v s =
     (limited _ (indexAsked (v .index (s .code)) (strikeOf (s .nature)) (priceSaid v s)) (index-lot _ (isCall (s .nature)) _ _) (λ e. simp e))
     (limited _ (futureAsked (v .stock (p .parent)) (priceSaid v s)) (stock-future-lot _ _) (λ e. simp e))
     (limited _ (stockAsked (v .stock (p .parent)) (strikeOf (s .nature)) (priceSaid v s)) (stock-lot _ (isCall (s .nature)) _ _) (λ e. simp e))
+
+-- And a lot of a future comes to no more than the dearest stock future.
+dealt : {most : ℕ} (l : Levels) (taken : Bool) → (taken ≡ true → AtMost most l) → (taken ≡ false → l ≡ flat 0) → AtMost most l
+dealt l true h k = h refl
+dealt l false h k = rw (k refl) (record { at-clearing = omega arith; at-maintenance = omega arith; at-initial = omega arith })
+
+pub future-most-lot : (v : View) (s : Series) → isFutureClass (productOf (s .code) .class) ≡ true → AtMost 2430000000 (quoteOf v s .lot .margin)
+unfolding quoteOf quoteAs lotAs fixedFuture fixedLevels stockFuture
+future-most-lot v s =
+    let p = productOf (s .code) in
+    each-class (λ (c : Class). isFutureClass c ≡ true → AtMost 2430000000 (lotAs v (classed p c) s .margin)) (p .class)
+    (λ e. absurd (clash e refl))
+    (λ e. dealt _ (fixedFits (clearingSaid v (p .parent)) (p .part)) (λ t. rw t (at-most-more (lit≤ tt) (fixed-most _ _ t))) (λ t. simp t))
+    (λ e. absurd (clash e refl))
+    (λ e. dealt _ (futureAsked (v .stock (p .parent)) (priceSaid v s)) (λ t. let h = future-asked-is _ _ t in rw t (future-most _ _ (stock-is _ (h .0)) (h .1))) (λ t. simp t))
+    (λ e. absurd (clash e refl))
 
 -- An amount that is said passes its test, and so does 0.
 said-fits : (test : ℕ → Bool) (f : Found) → test 0 ≡ true → test (pick (both (f .there) (test (f .amount))) (f .amount) 0) ≡ true

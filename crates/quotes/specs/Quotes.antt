@@ -20,7 +20,7 @@ use Rattle.amounts.specs.Lines.{indexFits, stockFits}
 use Rattle.amounts.specs.Lots.{futureLot, refusedLot, fixedFuture, stockFuture, indexOption, stockOption, indexTerms, stockTerms}
 use Rattle.sheets.specs.declared.Found.{Found}
 use Rattle.quotes.specs.declared.Quote.{Quote}
-use Rattle.quotes.specs.View.{View}
+use Rattle.sheets.specs.View.{View}
 
 -- what is said of a code by its class
 abbrev pub byClass : {A : Type 0} → Class → A → A → A → A → A → A
@@ -63,8 +63,8 @@ unfoldable pub lotLines : Product → Series → List SheetLine
 lotLines p s = ownLine p s ∷ byClass (p .class) [] [] (qLine s ∷ []) (qLine s ∷ []) (qLine s ∷ [])
 
 -- "F for the full-size future behind each ... index time spread"
-unfoldable pub tenthLines : Product → List SheetLine
-tenthLines p = byClass (p .class) [] [] (fLine (p .parent) ∷ []) [] []
+unfoldable pub parentLines : Product → List SheetLine
+parentLines p = byClass (p .class) [] [] (fLine (p .parent) ∷ []) [] []
 
 -- the amount of an F line and the price of a Q line, 0 where it is not on the sheet
 unfoldable pub clearingSaid : View → List ℕ → ℕ
@@ -93,7 +93,7 @@ termsAs v p s =
 
 -- zeros, which fill a row that no sheet was asked of
 unfoldable pub noQuote : Quote
-noQuote = record { lined = false; ready = false; tenth = false; lot = futureLot 0 (flat 0); terms = noTerms }
+noQuote = record { lined = false; ready = false; timed = false; lot = futureLot 0 (flat 0); terms = noTerms }
 
 -- all of it, worked out once
 unfoldable pub quoteAs : View → Product → Series → Quote
@@ -101,7 +101,7 @@ quoteAs v p s =
     record {
       lined = onSheet v (ownLine p s);
       ready = everyLine (onSheet v) (lotLines p s);
-      tenth = everyLine (onSheet v) (tenthLines p);
+      timed = everyLine (onSheet v) (parentLines p);
       lot = lotAs v p s;
       terms = termsAs v p s;
     }

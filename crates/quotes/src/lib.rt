@@ -6,7 +6,7 @@ ghost use Rattle.series.specs.Natures.{isCall, strikeOf};
 ghost use Rattle.levels.specs.Levels.{flat};
 ghost use Rattle.amounts.specs.Lines.{indexFits, stockFits};
 ghost use Rattle.amounts.specs.Lots.{futureLot, refusedLot, fixedFuture, stockFuture, indexOption, stockOption, indexTerms, stockTerms};
-ghost use Rattle.quotes.specs.View.{saying};
+ghost use Rattle.sheets.specs.View.{saying};
 ghost use Rattle.quotes.specs.Quotes.{byClass, clearingStands, priceStands, noTerms, noQuote, quoteAs};
 use amounts::IndexLine;
 use amounts::Lot;
@@ -23,7 +23,7 @@ use sheets::Found;
 pub struct Quote {
     pub lined: bool,
     pub ready: bool,
-    pub tenth: bool,
+    pub timed: bool,
     pub lot: Lot,
     pub terms: Terms,
 }
@@ -87,7 +87,7 @@ fn has_price(class: Class, price: Found) -> bool
 }
 
 // Whether the F line of an index option's parent future is on the sheet.
-fn has_tenth(class: Class, clearing: Found) -> bool
+fn has_parent(class: Class, clearing: Found) -> bool
     ensures { λ r. ⌜ r ≡ byClass class true true (clearingStands clearing) true true ⌝ }
 {
     match class {
@@ -167,7 +167,7 @@ pub fn quote_for(
     Quote {
         lined,
         ready: laws::and(lined, has_price(class, price)),
-        tenth: has_tenth(class, clearing),
+        timed: has_parent(class, clearing),
         lot: lot_of(class, product.part, nature, amount, index, stock, value),
         terms: terms_of(class, amount, index, stock),
     }
@@ -180,7 +180,7 @@ pub fn no_quote() -> Quote
     Quote {
         lined: false,
         ready: false,
-        tenth: false,
+        timed: false,
         lot: zero_lot(0),
         terms: no_terms(),
     }

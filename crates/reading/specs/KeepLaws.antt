@@ -27,8 +27,10 @@ use Rattle.calls.specs.PairedLaws.{pair-fits}
 use Rattle.calls.specs.OpenLaws.{sound-holdings}
 use Rattle.calls.specs.TieLaws.{sound-pairs}
 use Rattle.calls.specs.CallLaws.{make-sound}
-use Rattle.reading.specs.Reading.{Line, head, holding, pair, formless, lineChecks, withLine}
-use Rattle.reading.specs.Next.{Rows, Covered, NextHolding, NextPair, accountOf}
+use Rattle.book_lines.specs.Lines.{Line, head, holding, pair, formless}
+use Rattle.book_lines.specs.Facts.{accountOf}
+use Rattle.reading.specs.Reading.{lineChecks, withLine}
+use Rattle.reading.specs.Next.{Rows, Covered, NextHolding, NextPair}
 use Rattle.reading.specs.NextLaws.{more-rows}
 use Rattle.reading.specs.PassLaws.{head-passes, holding-passes, pair-passes}
 

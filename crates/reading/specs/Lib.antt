@@ -1,14 +1,9 @@
 pub mod Reading
 pub mod Facts
-pub mod NumberLaws
 pub mod Next
 pub mod NextLaws
 pub mod PassLaws
-pub mod FormLaws
 pub mod KeepLaws
-pub mod LineLaws
-pub mod TurnLaws
-pub mod ItemLaws
 pub mod SlotLaws
 pub mod FreeLaws
 pub mod StateLaws

@@ -1,5 +1,5 @@
--- What is known of rows as they stand in a sound book, and of a line that passes its checks behind a book (document 01, "The book" and
--- "Text").
+-- What is known of rows as they stand in a sound book, and of a line that passes its checks behind a book
+-- (document 01, "The book" and "Text").
 use mathlib.Core.Path.{_≡_}
 use mathlib.Core.Bool.{Bool, true}
 use mathlib.Core.List.{List, [], _∷_, _++_}
@@ -17,7 +17,6 @@ use Rattle.rows.specs.Book.{holdingsOf, pairsOf}
 use Rattle.rules.specs.Lots.{firstLeg, secondLeg, tied, total}
 use Rattle.rules.specs.Rules.{goodHolding, goodPair}
 use Rattle.calls.specs.Facts.{finds}
-use Rattle.reading.specs.Reading.{Line, head, holding, pair, formless}
 
 -- Rows as they stand in a sound book, and a row that may stand behind others.
 pub record Rows {A : Type 0} (good : A → Bool) (rank : A → List ℕ) (l : List A) : Type 0 where
@@ -45,10 +44,3 @@ pub record NextPair (b : Book) (p : Pair) : Type 0 where
   pub row : NextRow goodPair pairRank (pairsOf b) p
   pub first-free : finds (holdingsOf b) (pairsOf b) (firstLeg p)
   pub second-free : finds (holdingsOf b) (pairsOf b) (secondLeg p)
-
--- the account that a first line says
-abbrev pub accountOf : Line → ℕ
-accountOf (head account identity day) = account
-accountOf (holding h) = 0
-accountOf (pair p) = 0
-accountOf formless = 0

@@ -1,4 +1,5 @@
--- Laws of a line's checks: each refuses by a number that is not 0, and they pass exactly where the facts behind them hold.
+-- Laws of a line's checks: each refuses by a number that is not 0, and they pass exactly where the facts behind them
+-- hold.
 use mathlib.Core.Path.{_≡_, refl, ap}
 use mathlib.Core.Bool.{Bool, true, false, not}
 use mathlib.Core.List.{[], _∷_, _++_}
@@ -29,15 +30,14 @@ use Rattle.rules.specs.RuleLaws.{pair-is, pair-back}
 use Rattle.calls.specs.Calls.{legFree}
 use Rattle.calls.specs.Facts.{finds}
 use Rattle.calls.specs.PassLaws.{one-passes, leg-is-free}
-use Rattle.reading.specs.Reading.{Line, head, holding, pair, formless, lineChecks}
+use Rattle.book_lines.specs.Lines.{Line, head, holding, pair, checksBy}
+use Rattle.book_lines.specs.NumberLaws.{checks-numbered}
+use Rattle.reading.specs.Reading.{inOrder, hasRoom, lotsFree, lineChecks}
 use Rattle.reading.specs.Next.{NextHolding, NextPair}
 
 pub line-numbered : (first : Bool) (b : Book) (x : Line) → numbered (lineChecks first b x) ≡ true
-unfolding lineChecks pairChecks numbered
-line-numbered first b (head account identity day) = refl
-line-numbered first b (holding h) = refl
-line-numbered first b (pair p) = refl
-line-numbered first b formless = refl
+unfolding lineChecks
+line-numbered first b x = checks-numbered first (inOrder b x) (hasRoom b x) (lotsFree b x) x
 
 -- Behind a line the next is not the first.
 pub later-checks : (n : ℕ) (b : Book) (x : Line) → allPass (lineChecks (eqb (suc n) 0) b x) ≡ allPass (lineChecks false b x)
@@ -46,19 +46,23 @@ later-checks n b x = ap (λ (first : Bool). allPass (lineChecks first b x)) (eqb
 -- The first line.
 module _ (b : Book) (account identity day : ℕ) where
   pub head-passes : (first : Bool) → allPass (lineChecks first b (head account identity day)) ≡ true → (isIdentity identity ≡ true) × (isDay day ≡ true)
-  unfolding lineChecks allPass
+  unfolding lineChecks checksBy allPass
   head-passes first e =
       let d = both-true (isDay day) _ e in
       (both-true (isIdentity identity) _ (d .1) .0, d .0)
 
+  pub head-first : (first : Bool) → allPass (lineChecks first b (head account identity day)) ≡ true → first ≡ true
+  unfolding lineChecks checksBy allPass
+  head-first first e = one-passes first (both-true (isIdentity identity) _ (both-true (isDay day) _ e .1) .1)
+
   pub head-passes-back : isIdentity identity ≡ true → isDay day ≡ true → allPass (lineChecks true b (head account identity day)) ≡ true
-  unfolding lineChecks allPass
+  unfolding lineChecks checksBy allPass
   head-passes-back i d = both-hold d (both-hold i refl)
 
 -- A later line: a holding.
 module _ (b : Book) (h : Holding) (count : length (holdingsOf b) ≡ b .held) where
   pub holding-passes : (first : Bool) → allPass (lineChecks first b (holding h)) ≡ true → NextHolding b h
-  unfolding lineChecks allPass goodHolding
+  unfolding lineChecks checksBy inOrder hasRoom allPass goodHolding
   holding-passes first e =
       let k = both-true (known (classOf (h .series))) _ (both-true (not first) _ e .1) in
       let d = both-true (isDay (h .series .date)) _ (k .1) in
@@ -73,7 +77,7 @@ module _ (b : Book) (h : Holding) (count : length (holdingsOf b) ≡ b .held) wh
       }
 
   pub holding-passes-back : NextHolding b h → allPass (lineChecks false b (holding h)) ≡ true
-  unfolding lineChecks allPass goodHolding
+  unfolding lineChecks checksBy inOrder hasRoom allPass goodHolding
   holding-passes-back n =
       let g = both-true (goodSeries (h .series)) _ (n .row .is-good) in
       let s = series-parts (h .series) (g .0) in
@@ -92,7 +96,7 @@ leg-free-back b leg f = le-leb (leg .lots) (total (holdingsOf b) (leg .series) (
 -- A later line: a pair.
 module _ (b : Book) (p : Pair) (count : length (pairsOf b) ≡ b .paired) where
   pub pair-passes : (first : Bool) → allPass (lineChecks first b (pair p)) ≡ true → NextPair b p
-  unfolding lineChecks allPass mayStand
+  unfolding lineChecks checksBy inOrder hasRoom lotsFree allPass mayStand
   pair-passes first e =
       let k = both-true (both (known (classOf (p .first))) (known (classOf (p .second)))) _ (both-true (not first) _ e .1) in
       let d = both-true (both (isDay (p .first .date)) (isDay (p .second .date))) _ (k .1) in
@@ -114,7 +118,7 @@ module _ (b : Book) (p : Pair) (count : length (pairsOf b) ≡ b .paired) where
       }
 
   pub pair-passes-back : NextPair b p → allPass (lineChecks false b (pair p)) ≡ true
-  unfolding lineChecks allPass mayStand
+  unfolding lineChecks checksBy inOrder hasRoom lotsFree allPass mayStand
   pair-passes-back n =
       let g = pair-is p (n .row .is-good) in
       let s = series-parts (p .first) (g .first-good) in

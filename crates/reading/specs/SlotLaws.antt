@@ -1,14 +1,13 @@
 -- Laws of where free lots stand: the search for a series' row, and lots taken.
 use mathlib.Core.Path.{_≡_, ap, sym, subst}
-use mathlib.Core.Bool.{Bool, true, false, not}
+use mathlib.Core.Bool.{Bool}
 use mathlib.Core.List.{List, [], _∷_}
 use Prim.Native.Nat.{ℕ, _-_, _*_, _<_, _≤_}
 use native.Mathlib.Omega.{arith}
-use borrow.Author.Tests.{lt-ltb, le-ltb}
+use borrow.Author.Tests.{lt-ltb, le-ltb, ne-eqb}
 use lib.Dec.{leb}
 use lib.ListN.{getD, set}
 use Rattle.laws.specs.Truth.{both}
-use Rattle.laws.specs.TruthLaws.{failed, passed}
 use Rattle.series.specs.declared.Halves.{Halves}
 use Rattle.series.specs.declared.Series.{Series}
 use Rattle.series.specs.declared.Side.{Side}
@@ -16,7 +15,7 @@ use Rattle.series.specs.Key.{highKey, natureKey, halvesOf}
 use Rattle.pairing.specs.Sides.{firstSide, secondSide}
 use Rattle.rows.specs.declared.Pair.{Pair}
 use Rattle.halving.specs.Halving.{findIn}
-use Rattle.reading.specs.Facts.{slot, slotAt, legsFound, lessAt, legsTaken}
+use Rattle.reading.specs.Facts.{slot, slotAt, legsFound, noLegs, legsAt}
 
 -- The search, by the two halves of the series' key.
 module _ (highs lows : List ℕ) (held : ℕ) (s : Series) (d : Side) {k : Halves} {r : ℕ} (is : k ≡ halvesOf s) (at : r ≡ findIn highs lows held (k .high ∷ k .low ∷ [])) where
@@ -35,16 +34,12 @@ module _ (highs lows : List ℕ) (held : ℕ) (s : Series) (d : Side) {k : Halve
 pub take-all-lots : (l : List ℕ) (x n : ℕ) → getD l x 0 < n → set l x 0 ≡ set l x (getD l x 0 - n)
 take-all-lots l x n h = ap (set l x) (omega arith)
 
--- The legs of a pair: what they find, and what they take.
-module _ (highs lows free : List ℕ) (held : ℕ) (p : Pair) {d e : Side} {x y : ℕ} {r : Bool} (first : d ≡ firstSide (p .kind) (p .second)) (x-is : x ≡ slotAt highs lows held (p .first) d) (second : e ≡ secondSide (p .kind)) (y-is : y ≡ slotAt highs lows held (p .second) e) (is : r ≡ both (leb (p .r1 * p .units) (getD free x 0)) (leb (p .r2 * p .units) (getD free y 0))) where
-  found-is : r ≡ legsFound highs lows free held p
-  unfolding legsFound
-  found-is = rw (x-is, y-is, first, second) at is
+-- What is found for the legs of a line.
+module _ (highs lows free : List ℕ) (held : ℕ) (p : Pair) {letter : ℕ} where
+  pub legs-none : (letter ≡ 77 → ⊥) → noLegs ≡ legsAt highs lows free held letter p
+  unfolding legsAt
+  legs-none n = rw (ne-eqb letter 77 n)
 
-  pub legs-lack : not r ≡ true → (false ≡ legsFound highs lows free held p) × (free ≡ legsTaken highs lows free held p)
-  unfolding legsTaken
-  legs-lack n = let f = failed found-is n in (sym f, rw f)
-
-  pub legs-take : {f g : List ℕ} → not r ≡ false → f ≡ lessAt free x (p .r1 * p .units) → g ≡ lessAt f y (p .r2 * p .units) → (true ≡ legsFound highs lows free held p) × (g ≡ legsTaken highs lows free held p)
-  unfolding legsTaken
-  legs-take n one two = let t = passed found-is n in (sym t, rw t (rw (one, x-is, y-is, first, second) at two))
+  pub legs-found : letter ≡ 77 → {d e : Side} {x y : ℕ} {m n r : Bool} → d ≡ firstSide (p .kind) (p .second) → x ≡ slotAt highs lows held (p .first) d → e ≡ secondSide (p .kind) → y ≡ slotAt highs lows held (p .second) e → m ≡ leb (p .r1 * p .units) (getD free x 0) → n ≡ leb (p .r2 * p .units) (getD free y 0) → r ≡ both m n → record { first = x; second = y; free = r } ≡ legsAt highs lows free held letter p
+  unfolding legsAt legsFound
+  legs-found l first x-is second y-is m-is n-is is = rw (l, is, m-is, n-is, x-is, y-is, first, second)

@@ -10,9 +10,9 @@ use borrow.Author.Tests.{eqb-false}
 use lib.Dec.{leb, eqb}
 use lib.ListN.{getD, length, take, set, length-set, length-append}
 use lib.Seq.{take-suc-set, getD-take, getD-set-same, getD-set-other}
-use Rattle.laws.specs.Truth.{pick, both, either}
+use Rattle.laws.specs.Truth.{both, either}
 use Rattle.laws.specs.TruthLaws.{by-test}
-use Rattle.laws.specs.Checks.{firstFailing, orElse}
+use Rattle.laws.specs.Checks.{firstFailing}
 use Rattle.laws.specs.Order.{isLess, bytesOrder}
 use Rattle.lists.specs.Places.{full}
 use Rattle.lists.specs.PlaceLaws.{set-end}
@@ -29,7 +29,7 @@ use Rattle.rows.specs.declared.Holding.{Holding}
 use Rattle.rows.specs.declared.Pair.{Pair}
 use Rattle.rows.specs.declared.Book.{Book}
 use Rattle.rows.specs.Rows.{holdingRank, pairRank, lotsOn}
-use Rattle.rows.specs.Book.{holdingsOf, pairsOf, heldRows, pairedRows, withHoldings, withPairs, emptyBook}
+use Rattle.rows.specs.Book.{holdingsOf, pairsOf, heldRows, pairedRows, withHoldings, withPairs, bookOf, emptyBook, noBook}
 use Rattle.rules.specs.Facts.{SoundRows, Sound}
 use Rattle.rules.specs.Lots.{firstLeg, secondLeg, ties, tied, tiedBy, free as freeLots}
 use Rattle.rules.specs.Rules.{isIdentity}
@@ -38,10 +38,15 @@ use Rattle.sound.specs.Walk.{noRow, noPair, Keyed}
 use Rattle.sound.specs.KeyedLaws.{keyed-starts, keyed-next}
 use Rattle.sound.specs.WalkLaws.{rows-long}
 use Rattle.calls.specs.Calls.{legFree}
-use Rattle.reading.specs.Reading.{head, holding, pair, lineChecks, withLine}
-use Rattle.reading.specs.Facts.{numberOfHolding, numberOfPair, slot, firstSlot, secondSlot, legsFound, lessAt, lessLegs}
+use Rattle.book_lines.specs.declared.Item.{Item}
+use Rattle.book_lines.specs.Lines.{Line, head, holding, pair, formless}
+use Rattle.book_lines.specs.Facts.{pairOf, lineOf, orderBehind, roomBehind, numberBehind}
+use Rattle.book_lines.specs.LetterLaws.{says-pair}
+use Rattle.book_lines.specs.NumberLaws.{free-counts}
+use Rattle.reading.specs.declared.Legs.{Legs}
+use Rattle.reading.specs.Reading.{inOrder, hasRoom, lotsFree, lineChecks, withLine}
+use Rattle.reading.specs.Facts.{slot, firstSlot, secondSlot, legsFound, legsAt, lessAt, lessLegs}
 use Rattle.reading.specs.Next.{NextHolding, NextPair}
-use Rattle.reading.specs.NumberLaws.{holding-number-of, pair-number-of}
 use Rattle.reading.specs.FreeLaws.{slot-has, leg-takes}
 
 -- What goes along with the book b.
@@ -73,29 +78,48 @@ after-same rank n x y z e =
     (λ q f. let k = eqb-false n 0 f in ap (λ (r : List ℕ). isLess (bytesOrder r (rank z))) (e (omega arith)))
     refl
 
+-- The last rows of a book, where there are any.
+pub record Lasts (b : Book) (last : Holding) (newest : Pair) : Type 0 where
+  pub last-is : 0 < b .held → last ≡ getD (b .holdings) (b .held - 1) noRow
+  pub newest-is : 0 < b .paired → newest ≡ getD (b .pairs) (b .paired - 1) noPair
+
+pub no-lasts : {b : Book} (last : Holding) (newest : Pair) → b ≡ noBook → Lasts b last newest
+unfolding noBook emptyBook bookOf
+no-lasts last newest e =
+    let h = ap (λ (z : Book). z .held) e in
+    let p = ap (λ (z : Book). z .paired) e in
+    record { last-is = λ lt. absurd (omega arith); newest-is = λ lt. absurd (omega arith) }
+
 -- A row after the last one of the book.
-module _ {b : Book} (sound : Sound b) where
-  after-holdings : (h : Holding) → after holdingRank (b .held) (getD (b .holdings) (b .held - 1) noRow) h ≡ ascending holdingRank (holdingsOf b ++ (h ∷ []))
+module _ {b : Book} (sound : Sound b) {last : Holding} {newest : Pair} (lasts : Lasts b last newest) where
+  after-holdings : (h : Holding) → after holdingRank (b .held) last h ≡ ascending holdingRank (holdingsOf b ++ (h ∷ []))
   unfolding holdingsOf
   after-holdings h =
-      after-same holdingRank (b .held) (getD (b .holdings) (b .held - 1) noRow) (getD (holdingsOf b) (b .held - 1) noRow) h
-      (λ lt. ap holdingRank (sym (getD-take (b .held) (b .holdings) (b .held - 1) noRow (omega arith))))
+      after-same holdingRank (b .held) last (getD (holdingsOf b) (b .held - 1) noRow) h
+      (λ lt. ap holdingRank (lasts .last-is lt ∙ sym (getD-take (b .held) (b .holdings) (b .held - 1) noRow (omega arith))))
       ∙ sym (ascends-after holdingRank h noRow (holdingsOf b) (b .held) (holdings-count sound) (holdings-order sound))
 
-  after-pairs : (p : Pair) → after pairRank (b .paired) (getD (b .pairs) (b .paired - 1) noPair) p ≡ ascending pairRank (pairsOf b ++ (p ∷ []))
+  after-pairs : (p : Pair) → after pairRank (b .paired) newest p ≡ ascending pairRank (pairsOf b ++ (p ∷ []))
   unfolding pairsOf
   after-pairs p =
-      after-same pairRank (b .paired) (getD (b .pairs) (b .paired - 1) noPair) (getD (pairsOf b) (b .paired - 1) noPair) p
-      (λ lt. ap pairRank (sym (getD-take (b .paired) (b .pairs) (b .paired - 1) noPair (omega arith))))
+      after-same pairRank (b .paired) newest (getD (pairsOf b) (b .paired - 1) noPair) p
+      (λ lt. ap pairRank (lasts .newest-is lt ∙ sym (getD-take (b .paired) (b .pairs) (b .paired - 1) noPair (omega arith))))
       ∙ sym (ascends-after pairRank p noPair (pairsOf b) (b .paired) (pairs-count sound) (pairs-order sound))
 
-  -- The number of a line is that of its first check that fails; of an M line, of the checks before the last.
-  module _ (first : Bool) {number : ℕ} where
-    pub holding-number : (h : Holding) → number ≡ numberOfHolding h (getD (b .holdings) (b .held - 1) noRow) first (b .held) (b .paired) → firstFailing (lineChecks first b (holding h)) ≡ number
-    holding-number h is = sym (is ∙ holding-number-of first b h _ (λ none. after-holdings h))
+  -- What counts and last rows tell a line is what the book does.
+  order-told : (x : Line) → orderBehind last (b .held) newest (b .paired) x ≡ inOrder b x
+  unfolding orderBehind inOrder
+  order-told (head account identity day) = refl
+  order-told (holding h) = ap (both (eqb (b .paired) 0)) (after-holdings h)
+  order-told (pair p) = after-pairs p
+  order-told formless = refl
 
-    pub pair-number : (p : Pair) → number ≡ numberOfPair p (getD (b .pairs) (b .paired - 1) noPair) first (b .paired) → firstFailing (lineChecks first b (pair p)) ≡ orElse number (pick (both (legFree b (firstLeg p)) (legFree b (secondLeg p))) 0 9)
-    pair-number p is = pair-number-of first b p _ (after-pairs p) ∙ ap (λ (n : ℕ). orElse n (pick (both (legFree b (firstLeg p)) (legFree b (secondLeg p))) 0 9)) (sym is)
+room-told : (b : Book) (x : Line) → roomBehind (b .held) (b .paired) x ≡ hasRoom b x
+unfolding roomBehind hasRoom
+room-told b (head account identity day) = refl
+room-told b (holding h) = refl
+room-told b (pair p) = refl
+room-told b formless = refl
 
 -- Rows in an array with one more at the end of the live ones.
 row-more : {A : Type 0} {empty : A} {good : A → Bool} {rank : A → List ℕ} {n : ℕ} {rows : List A} (x : A) → SoundRows empty good rank n rows → n < 128 → (set rows n x ≡ full 128 empty (take n rows ++ (x ∷ []))) × (n + 1 ≡ length (take n rows ++ (x ∷ [])))
@@ -103,13 +127,19 @@ row-more {A} {empty} {good} {rank} {n} {rows} x s lt =
     let c = s .counted in
     (ap (λ (l : List A). set l n x) (s .filled) ∙ subst (λ (k : ℕ). set (full 128 empty (take n rows)) k x ≡ full 128 empty (take n rows ++ (x ∷ []))) c (set-end 128 empty x (take n rows) (omega arith)), omega (arith, length-append (take n rows) (x ∷ [])))
 
--- An A line.
-pub head-book-is : (b : Book) (account identity day : ℕ) → isIdentity identity ≡ true → emptyBook account (identity % 256) day ≡ withLine b (head account identity day)
-unfolding withLine
-head-book-is b account identity day e =
+-- An A line, which is the first: the book is still the one that is read from no line.
+abbrev pub headed : Book → ℕ → ℕ → ℕ → Book
+headed b account identity day = record { account = account; identity = identity; day = day; holdings = b .holdings; held = b .held; pairs = b .pairs; paired = b .paired }
+
+pub head-lasts : {b : Book} {last : Holding} {newest : Pair} → Lasts b last newest → (account identity day : ℕ) → Lasts (headed b account identity day) last newest
+head-lasts lasts account identity day = record { last-is = lasts .last-is; newest-is = lasts .newest-is }
+
+pub head-book-is : (b : Book) (account identity day : ℕ) → b ≡ noBook → isIdentity identity ≡ true → headed b account (identity % 256) day ≡ withLine b (head account identity day)
+unfolding withLine noBook emptyBook bookOf
+head-book-is b account identity day is e =
     let small = identity-between identity e in
     let same : identity % 256 ≡ identity = omega arith in
-    ap (λ (i : ℕ). emptyBook account i day) same
+    ap (λ (c : Book). headed c account (identity % 256) day) is ∙ ap (λ (i : ℕ). emptyBook account i day) same
 
 -- The free lots with a row entered behind the others.
 slot-low : (i : ℕ) (d : Side) → slot i d ≤ 2 * i + 1
@@ -172,7 +202,12 @@ module _ {b : Book} {highs lows free : List ℕ} (a : Along b highs lows free) {
           let is : i ≡ b .held = omega arith in
           rw (is, here, none-tied (row .series) d) (entered-here free (b .held) d row (a .free-long) held-few ∙ omega arith)
 
-  -- The number of the holdings, and what goes along, with one more.
+  -- What goes along, with one more.
+  pub holding-last : {last : Holding} {newest : Pair} → Lasts b last newest → Lasts (heldRows b (set (b .holdings) (b .held) row) (b .held + 1)) row newest
+  holding-last lasts =
+      let own : b .held + 1 - 1 ≡ b .held = omega arith in
+      record { last-is = λ lt. rw own (sym here); newest-is = lasts .newest-is }
+
   pub holding-along : Sound (withLine b (holding row)) → Along (heldRows b (set (b .holdings) (b .held) row) (b .held + 1)) (set highs (b .held) (highKey (row .series))) (set lows (b .held) (natureKey (row .series .nature))) (set (set free (2 * b .held) (row .long)) (2 * b .held + 1) (row .short))
   unfolding pairsOf
   holding-along s =
@@ -203,6 +238,21 @@ module _ {b : Book} {highs lows free : List ℕ} (a : Along b highs lows free) (
       let sum = sum-joined (tiedBy (getD (b .holdings) i noRow .series) d) (pairsOf b) (p ∷ []) in
       two ∙ omega arith
 
+-- So the number of a line that letter and items say is that of its first check that fails.
+module _ {b : Book} {highs lows free : List ℕ} (a : Along b highs lows free) (letter : ℕ) (items : List Item) {p : Pair} (p-is : p ≡ pairOf items) {legs : Legs} (found : legs ≡ legsAt highs lows free (b .held) letter p) where
+  free-told : letter ≡ 77 → goodSeries (pairOf items .first) ≡ true → goodSeries (pairOf items .second) ≡ true → legs .free ≡ lotsFree b (lineOf letter items)
+  unfolding legsAt lotsFree
+  free-told l f s =
+      ap (λ (z : Legs). z .free) (rw (l, p-is) at found)
+      ∙ legs-are-free a (pairOf items) f s
+      ∙ sym (ap (lotsFree b) (says-pair items l))
+
+  pub number-told : (first : Bool) {last : Holding} {newest : Pair} → Lasts b last newest → {number : ℕ} → number ≡ numberBehind first last (b .held) newest (b .paired) (legs .free) (lineOf letter items) → firstFailing (lineChecks first b (lineOf letter items)) ≡ number
+  unfolding numberBehind lineChecks
+  number-told first lasts is =
+      let x = lineOf letter items in
+      sym (is ∙ rw (order-told (a .sound) lasts x, room-told b x) (free-counts first (inOrder b x) (hasRoom b x) letter items free-told))
+
 -- With the pair as the last one.
 module _ {b : Book} {highs lows free : List ℕ} (a : Along b highs lows free) {newest : Pair} (next : NextPair b newest) where
   paired-few : b .paired < 128
@@ -211,6 +261,13 @@ module _ {b : Book} {highs lows free : List ℕ} (a : Along b highs lows free) {
   pub pair-book-is : pairedRows b (set (b .pairs) (b .paired) newest) (b .paired + 1) ≡ withLine b (pair newest)
   unfolding withLine withPairs pairsOf
   pair-book-is = let m = row-more newest (a .sound .pairs-sound) paired-few in λ i. pairedRows b (m .0 i) (m .1 i)
+
+  pub pair-last : {last : Holding} {other : Pair} → Lasts b last other → Lasts (pairedRows b (set (b .pairs) (b .paired) newest) (b .paired + 1)) last newest
+  pair-last lasts =
+      let long = rows-long (a .sound .pairs-sound) in
+      let few = paired-few in
+      let own : b .paired + 1 - 1 ≡ b .paired = omega arith in
+      record { last-is = lasts .last-is; newest-is = λ lt. rw own (sym (getD-set-same (b .pairs) (b .paired) newest noPair (omega arith))) }
 
   its-pairs-are : pairsOf (pairedRows b (set (b .pairs) (b .paired) newest) (b .paired + 1)) ≡ pairsOf b ++ (newest ∷ [])
   unfolding pairsOf

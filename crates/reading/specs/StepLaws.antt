@@ -1,49 +1,41 @@
 -- Laws of the loop over lines: where a line begins, how it is refused, and what the next one finds.
 use mathlib.Core.Path.{_≡_, refl, ap, sym, _∙_, subst}
 use mathlib.Core.Logic.{inl, ⊎-elim}
-use mathlib.Core.Bool.{Bool, true, false, not}
+use mathlib.Core.Bool.{Bool, true}
 use mathlib.Core.List.{List}
 use Prim.Native.Nat.{ℕ, suc, _+_, _-_, _*_, _%_, _<_, _≤_}
 use native.Mathlib.Omega.{arith}
-use borrow.Author.Tests.{lt-leb, le-leb, eq-eqb, ne-eqb, eqb-true, eqb-false, ltb-true, ltb-false, not-true, not-false}
+use borrow.Author.Tests.{lt-leb, le-leb, eq-eqb, ne-eqb, eqb-true, eqb-false, ltb-true, ltb-false}
 use lib.Dec.{ltb, eqb}
 use lib.ListN.{getD, length, drop, set, drop-of-length-le, length-drop}
-use Rattle.laws.specs.Truth.{pick, both}
-use Rattle.laws.specs.TruthLaws.{by-test, both-true, false-unless}
-use Rattle.laws.specs.Checks.{firstFailing, allPass, orElse}
-use Rattle.laws.specs.CheckLaws.{none-fails, accepted as no-failure, or-number, pass-both}
-use Rattle.lists.specs.Sorted.{after}
-use Rattle.dates.specs.Calendar.{isDay}
-use Rattle.codes.specs.Codes.{known}
-use Rattle.series.specs.Checks.{suits, classOf, goodSeries}
-use Rattle.series.specs.CheckLaws.{series-whole}
+use Rattle.laws.specs.TruthLaws.{by-test, false-unless}
+use Rattle.laws.specs.Checks.{firstFailing, allPass}
+use Rattle.laws.specs.CheckLaws.{none-fails, no-failure}
 use Rattle.series.specs.Key.{highKey, natureKey}
-use Rattle.pairing.specs.Rules.{partsOf, pairChecks}
 use Rattle.rows.specs.declared.Holding.{Holding}
 use Rattle.rows.specs.declared.Book.{Book}
 use Rattle.rows.specs.declared.Pair.{Pair}
-use Rattle.rows.specs.Rows.{pairRank}
 use Rattle.rows.specs.Book.{heldRows, pairedRows, bookOf, emptyBook, noBook}
 use Rattle.rules.specs.Facts.{Sound, Counts}
-use Rattle.rules.specs.Rules.{countsFit}
-use Rattle.rules.specs.RuleLaws.{counts-are, holdings-count, pairs-count}
-use Rattle.rules.specs.Lots.{firstLeg, secondLeg}
-use Rattle.sound.specs.Walk.{noRow, noPair}
-use Rattle.calls.specs.Calls.{legFree}
+use Rattle.rules.specs.RuleLaws.{counts-are, pair-is, holdings-count, pairs-count}
 use Rattle.calls.specs.CallLaws.{no-book-sound}
-use Rattle.lines.specs.Parts.{lf, more, splitOn, nextOf, stopOf}
+use Rattle.lines.specs.Pieces.{lf, more, splitOn, nextOf, stopOf}
 use Rattle.lines.specs.CutLaws.{next-low, part-more, part-last}
 use Rattle.lines.specs.StopLaws.{stop-high, stop-within, lineAt}
+use Rattle.book_lines.specs.declared.Item.{Item}
+use Rattle.book_lines.specs.Lines.{Line, head, holding, pair, formless, bookLine, checksBy}
+use Rattle.book_lines.specs.Facts.{item, holdingOf, pairOf, lineOf, numberBehind, accountOf}
+use Rattle.book_lines.specs.LetterLaws.{says-head, says-holding, says-pair}
+use Rattle.book_lines.specs.FormLaws.{line-account}
+use Rattle.book_lines.specs.TurnLaws.{Formless, Says}
 use Rattle.reading.specs.declared.Answer.{Answer}
-use Rattle.reading.specs.Reading.{Line, head, holding, pair, formless, lineOf, lineChecks, withLine, refusedAt, accepted, readLines, readText}
-use Rattle.reading.specs.Facts.{pairChecksButLots, numberOfHead, numberOfHolding, numberOfPair, legsFound, legsTaken}
-use Rattle.reading.specs.Next.{NextHolding, accountOf}
-use Rattle.reading.specs.PassLaws.{line-numbered, head-passes, holding-passes, pair-passes}
-use Rattle.reading.specs.FormLaws.{line-account}
+use Rattle.reading.specs.declared.Legs.{Legs}
+use Rattle.reading.specs.Reading.{lineChecks, withLine, refusedAt, readAs, readLines, readBook}
+use Rattle.reading.specs.Facts.{firstSlot, secondSlot, legsAt, lessLegs}
+use Rattle.reading.specs.Next.{NextHolding, NextPair}
+use Rattle.reading.specs.PassLaws.{line-numbered, head-passes, head-first, holding-passes, pair-passes}
 use Rattle.reading.specs.KeepLaws.{line-keeps}
-use Rattle.reading.specs.TurnLaws.{Formless, Says}
-use Rattle.reading.specs.NumberLaws.{head-number-is, but-lots-numbered}
-use Rattle.reading.specs.StateLaws.{Along, along-empty, holding-number, pair-number, head-book-is, holding-book-is, holding-along, pair-book-is, pair-along, legs-are-free}
+use Rattle.reading.specs.StateLaws.{Along, along-empty, Lasts, number-told, headed, head-book-is, holding-book-is, holding-last, holding-along, pair-book-is, pair-last, pair-along}
 
 -- what comes of the text t
 abbrev pub answerOf : List ℕ → Answer
@@ -52,6 +44,7 @@ answerOf t = readLines 0 noBook (splitOn lf t)
 -- The loop is at the place `at` behind so many lines, which say the book b.
 pub record AtLine (t : List ℕ) (b : Book) (highs lows free : List ℕ) (line at : ℕ) : Type 0 where
   pub along : Along b highs lows free
+  pub fresh : line ≡ 0 → b ≡ noBook
   pub low : at ≤ length t
   pub few : line ≤ at
   pub goes : readLines line b (splitOn lf (drop at t)) ≡ answerOf t
@@ -60,11 +53,12 @@ pub lines-start : (t highs lows free : List ℕ) {b : Book} → b ≡ noBook →
 unfolding noBook emptyBook bookOf
 lines-start t highs lows free is h l f =
     subst (λ (b : Book). AtLine t b highs lows free 0 0) (sym is)
-    (record { along = along-empty noBook highs lows free no-book-sound refl refl h l f; low = omega arith; few = omega arith; goes = refl })
+    (record { along = along-empty noBook highs lows free no-book-sound refl refl h l f; fresh = λ z. refl; low = omega arith; few = omega arith; goes = refl })
 
 -- The loop is in a line, which begins at `at`.
 pub record InText (t : List ℕ) (b : Book) (highs lows free : List ℕ) (line at : ℕ) : Type 0 where
   pub along : Along b highs lows free
+  pub fresh : line ≡ 1 → b ≡ noBook
   pub low : at < length t
   pub some : 1 ≤ line
   pub few : line ≤ at + 1
@@ -73,6 +67,7 @@ pub record InText (t : List ℕ) (b : Book) (highs lows free : List ℕ) (line a
 -- It is at the end of a line, of which the row is all but its LF.
 pub record AtRow (t : List ℕ) (b : Book) (highs lows free : List ℕ) (line at end : ℕ) (row : List ℕ) : Type 0 where
   pub along : Along b highs lows free
+  pub fresh : line ≡ 1 → b ≡ noBook
   pub begins : at ≤ end
   pub low : end < length t
   pub some : 1 ≤ line
@@ -81,7 +76,7 @@ pub record AtRow (t : List ℕ) (b : Book) (highs lows free : List ℕ) (line at
 
 module _ {t : List ℕ} {b : Book} {highs lows free : List ℕ} {line at : ℕ} (a : AtLine t b highs lows free line at) where
   -- The text has ended.
-  pub lines-end : at ≡ length t → accepted b ≡ answerOf t
+  pub lines-end : at ≡ length t → readAs b ≡ answerOf t
   unfolding readLines splitOn
   lines-end e = let le : length t ≤ at = omega arith in rw (drop-of-length-le t le) at (a .goes)
 
@@ -91,7 +86,7 @@ module _ {t : List ℕ} {b : Book} {highs lows free : List ℕ} {line at : ℕ} 
       let low = a .low in
       let few = a .few in
       let own : line + 1 - 1 ≡ line = omega arith in
-      record { along = a .along; low = omega arith; some = omega arith; few = omega arith; goes = rw own (a .goes) }
+      record { along = a .along; fresh = λ z. a .fresh (omega arith); low = omega arith; some = omega arith; few = omega arith; goes = rw own (a .goes) }
 
 module _ {t : List ℕ} {b : Book} {highs lows free : List ℕ} {line at : ℕ} (a : InText t b highs lows free line at) where
   -- It has no LF.
@@ -110,35 +105,7 @@ module _ {t : List ℕ} {b : Book} {highs lows free : List ℕ} {line at : ℕ} 
       let low = a .low in
       let first = next-low t at lf in
       let few = a .few in
-      record { along = a .along; begins = omega arith; low = lt; some = a .some; few = omega arith; goes = rw (sym is, sym (part-more t at lf is (omega arith) lt)) (a .goes) }
-
--- What is known of an M line that passes all its checks but the last.
-pub record FirstPasses (p : Pair) (paired : ℕ) : Type 0 where
-  pub first-good : goodSeries (p .first) ≡ true
-  pub second-good : goodSeries (p .second) ≡ true
-  pub counts : Counts (p .r1) (p .r2) (p .units)
-  pub room : paired < 128
-
-first-pass : (p last : Pair) (first : Bool) (paired : ℕ) → numberOfPair p last first paired ≡ 0 → FirstPasses p paired
-unfolding numberOfPair pairChecksButLots allPass
-first-pass p last first paired e =
-    let o = both-true (not first) _ (no-failure (pairChecksButLots p last first paired) (but-lots-numbered p last first paired) e) in
-    let k = both-true (both (known (classOf (p .first))) (known (classOf (p .second)))) _ (o .1) in
-    let d = both-true (both (isDay (p .first .date)) (isDay (p .second .date))) _ (k .1) in
-    let n = both-true (both (suits (classOf (p .first)) (p .first .nature)) (suits (classOf (p .second)) (p .second .nature))) _ (d .1) in
-    let c = both-true (countsFit (p .r1) (p .r2) (p .units)) _ (n .1) in
-    let m = pass-both (pairChecks (partsOf (p .kind) (p .first) (p .second) (p .r1) (p .r2))) _ (c .1) in
-    let f = both-true (after pairRank paired last p) _ (m .1) in
-    let r = both-true (ltb paired 128) _ (f .1) in
-    let ks = both-true (known (classOf (p .first))) _ (k .0) in
-    let ds = both-true (isDay (p .first .date)) _ (d .0) in
-    let ns = both-true (suits (classOf (p .first)) (p .first .nature)) _ (n .0) in
-    record {
-      first-good = series-whole (p .first) (ks .0) (ds .0) (ns .0);
-      second-good = series-whole (p .second) (ks .1) (ds .1) (ns .1);
-      counts = counts-are (p .r1) (p .r2) (p .units) (c .0);
-      room = ltb-true paired 128 (r .0);
-    }
+      record { along = a .along; fresh = a .fresh; begins = omega arith; low = lt; some = a .some; few = omega arith; goes = rw (sym is, sym (part-more t at lf is (omega arith) lt)) (a .goes) }
 
 -- The first line, and any other.
 first-is : (line : ℕ) → 1 ≤ line → eqb line 1 ≡ eqb (line - 1) 0
@@ -149,12 +116,8 @@ first-is line some =
     refl
 
 module _ {t : List ℕ} {b : Book} {highs lows free : List ℕ} {line at end : ℕ} {row : List ℕ} (a : AtRow t b highs lows free line at end row) where
-  -- Each line leaves less of the text.
-  pub line-less : length t - (end + 1) < length t - at
-  line-less = let begins = a .begins in let low = a .low in omega arith
-
   -- A row whose checks fail.
-  row-refused : {number : ℕ} (x : Line) → lineOf row ≡ x → firstFailing (lineChecks (eqb (line - 1) 0) b x) ≡ number → (number ≡ 0 → ⊥) → refusedAt number line ≡ answerOf t
+  row-refused : {number : ℕ} (x : Line) → bookLine row ≡ x → firstFailing (lineChecks (eqb (line - 1) 0) b x) ≡ number → (number ≡ 0 → ⊥) → refusedAt number line ≡ answerOf t
   unfolding readLines
   row-refused x says e n =
       let fails = false-unless (allPass (lineChecks (eqb (line - 1) 0) b x)) (λ p. n (sym e ∙ none-fails _ p)) in
@@ -162,19 +125,16 @@ module _ {t : List ℕ} {b : Book} {highs lows free : List ℕ} {line at end : �
       let n : suc (line - 1) ≡ line = omega arith in
       rw (says, fails, e, n) at (a .goes)
 
-  row-formless : lineOf row ≡ formless → refusedAt 1 line ≡ answerOf t
-  unfolding lineChecks firstFailing
+  row-formless : bookLine row ≡ formless → refusedAt 1 line ≡ answerOf t
+  unfolding lineChecks checksBy firstFailing
   row-formless says = row-refused formless says refl (λ z. omega arith)
 
--- A line of the form, which says x.
-pub record SaidRow (t : List ℕ) (b : Book) (highs lows free : List ℕ) (line at end : ℕ) (x : Line) : Type 0 where
+-- A line of the form, which letter and items say.
+pub record SaidRow (t : List ℕ) (b : Book) (highs lows free : List ℕ) (line at end letter : ℕ) (items : List Item) : Type 0 where
   pub at-row : AtRow t b highs lows free line at end (lineAt t at)
-  pub says : lineOf (lineAt t at) ≡ x
+  pub says : bookLine (lineAt t at) ≡ lineOf letter items
 
 module _ {t : List ℕ} {b : Book} {highs lows free : List ℕ} {line at : ℕ} (a : AtLine t b highs lows free line at) (some : at ≡ length t → ⊥) where
-  pub line-inside : at < length t
-  line-inside = line-opens a some .low
-
   -- Its letter ends inside the text, or the text does.
   module _ {stop : ℕ} (is : stop ≡ stopOf t at) where
     pub letter-high : stop ≤ length t
@@ -196,134 +156,161 @@ module _ {t : List ℕ} {b : Book} {highs lows free : List ℕ} {line at : ℕ} 
       (λ q e. line-unended (line-opens a some) (ltb-false _ _ e))
       refl)
 
-  pub row-said : {x : Line} {end : ℕ} → Says t at x end → SaidRow t b highs lows free (line + 1) at end x
+  pub row-said : {letter end : ℕ} {items : List Item} → Says t at (lineOf letter items) end → SaidRow t b highs lows free (line + 1) at end letter items
   row-said h = record { at-row = row-ends (line-opens a some) (h .1 .0) (h .1 .1); says = h .0 }
 
-module _ {t : List ℕ} {b : Book} {highs lows free : List ℕ} {line at end : ℕ} {x : Line} (q : SaidRow t b highs lows free line at end x) where
-  here : AtRow t b highs lows free line at end (lineAt t at)
-  here = q .at-row
+-- A line that says x and passes its checks; and one that letter and items say.
+pub record PassedRow (t : List ℕ) (b : Book) (highs lows free : List ℕ) (line at end : ℕ) (x : Line) : Type 0 where
+  pub at-row : AtRow t b highs lows free line at end (lineAt t at)
+  pub says : bookLine (lineAt t at) ≡ x
+  pub passes : allPass (lineChecks (eqb (line - 1) 0) b x) ≡ true
 
-  along : Along b highs lows free
-  along = q .at-row .along
+pub record PassedLine (t : List ℕ) (b : Book) (highs lows free : List ℕ) (line at end letter : ℕ) (items : List Item) : Type 0 where
+  pub row : PassedRow t b highs lows free line at end (lineOf letter items)
 
-  -- the test of the first line
-  first-same : {n : ℕ} (f : Bool → ℕ) → n ≡ f (eqb line 1) → n ≡ f (eqb (line - 1) 0)
-  first-same f e = e ∙ ap f (first-is line (here .some))
+-- With what is found for its legs, and its number, a line is refused by the number or passes its checks.
+module _ {t : List ℕ} {b : Book} {highs lows free : List ℕ} {line at end letter : ℕ} {items : List Item} (q : SaidRow t b highs lows free line at end letter items) {p : Pair} (p-is : p ≡ pairOf items) {legs : Legs} (found : legs ≡ legsAt highs lows free (b .held) letter p) {last : Holding} {newest : Pair} (lasts : Lasts b last newest) {number : ℕ} (is : number ≡ numberBehind (eqb line 1) last (b .held) newest (b .paired) (legs .free) (lineOf letter items)) where
+  number-is : firstFailing (lineChecks (eqb (line - 1) 0) b (lineOf letter items)) ≡ number
+  number-is =
+      number-told (q .at-row .along) letter items p-is found (eqb (line - 1) 0) lasts
+      (is ∙ ap (λ (first : Bool). numberBehind first last (b .held) newest (b .paired) (legs .free) (lineOf letter items)) (first-is line (q .at-row .some)))
 
-  passes : firstFailing (lineChecks (eqb (line - 1) 0) b x) ≡ 0 → allPass (lineChecks (eqb (line - 1) 0) b x) ≡ true
-  passes e = no-failure (lineChecks (eqb (line - 1) 0) b x) (line-numbered (eqb (line - 1) 0) b x) e
+  pub line-refused : (number ≡ 0 → ⊥) → refusedAt number line ≡ answerOf t
+  line-refused n = row-refused (q .at-row) (lineOf letter items) (q .says) number-is n
 
-  keeps : allPass (lineChecks (eqb (line - 1) 0) b x) ≡ true → Sound (withLine b x)
-  keeps p = line-keeps (along .sound) (eqb (line - 1) 0) x (subst (λ (y : Line). accountOf y ≤ 9999999) (q .says) (line-account (lineAt t at))) p
+  pub line-passes : number ≡ 0 → PassedLine t b highs lows free line at end letter items
+  line-passes zero-is =
+      record {
+        row = record {
+          at-row = q .at-row;
+          says = q .says;
+          passes = no-failure (lineChecks (eqb (line - 1) 0) b (lineOf letter items)) (line-numbered (eqb (line - 1) 0) b (lineOf letter items)) (number-is ∙ zero-is);
+        };
+      }
 
-  next-line : allPass (lineChecks (eqb (line - 1) 0) b x) ≡ true → {c : Book} {highs' lows' free' : List ℕ} → c ≡ withLine b x → Along c highs' lows' free' → AtLine t c highs' lows' free' line (end + 1)
+module _ {t : List ℕ} {b : Book} {highs lows free : List ℕ} {line at end : ℕ} {x : Line} (q : PassedRow t b highs lows free line at end x) where
+  behind : Along b highs lows free
+  behind = q .at-row .along
+
+  keeps : Sound (withLine b x)
+  keeps = line-keeps (behind .sound) (eqb (line - 1) 0) x (subst (λ (y : Line). accountOf y ≤ 9999999) (q .says) (line-account (lineAt t at))) (q .passes)
+
+  next-line : {c : Book} {highs' lows' free' : List ℕ} → c ≡ withLine b x → Along c highs' lows' free' → AtLine t c highs' lows' free' line (end + 1)
   unfolding readLines
-  next-line p e along =
+  next-line e along =
+      let here = q .at-row in
       let low = here .low in
       let few = here .few in
       let some = here .some in
       let n : suc (line - 1) ≡ line = omega arith in
-      record { along = along; low = omega arith; few = omega arith; goes = rw e (rw (q .says, p, n) at (here .goes)) }
-
-  refused-by : {number : ℕ} → firstFailing (lineChecks (eqb (line - 1) 0) b x) ≡ number → (number ≡ 0 → ⊥) → refusedAt number line ≡ answerOf t
-  refused-by e n = row-refused here x (q .says) e n
+      record { along = along; fresh = λ z. absurd (omega arith); low = omega arith; few = omega arith; goes = rw e (rw (q .says, q .passes, n) at (here .goes)) }
 
 -- An A line.
-module _ {t : List ℕ} {b : Book} {highs lows free : List ℕ} {line at end account identity day : ℕ} (q : SaidRow t b highs lows free line at end (head account identity day)) {number : ℕ} (is : number ≡ numberOfHead identity day (eqb line 1)) where
-  head-number : firstFailing (lineChecks (eqb (line - 1) 0) b (head account identity day)) ≡ number
-  head-number = sym (first-same q (numberOfHead identity day) is ∙ head-number-is (eqb (line - 1) 0) b account identity day)
+module _ {t : List ℕ} {b : Book} {highs lows free : List ℕ} {line at end account identity day : ℕ} (q : PassedRow t b highs lows free line at end (head account identity day)) where
+  still-none : b ≡ noBook
+  still-none =
+      let first = eqb-true (line - 1) 0 (head-first b account identity day (eqb (line - 1) 0) (q .passes)) in
+      let some = q .at-row .some in
+      q .at-row .fresh (omega arith)
 
-  pub head-refused : (number ≡ 0 → ⊥) → refusedAt number line ≡ answerOf t
-  head-refused n = refused-by q head-number n
-
-  pub head-next : number ≡ 0 → {c : Book} → c ≡ emptyBook account (identity % 256) day → AtLine t c highs lows free line (end + 1)
-  unfolding emptyBook bookOf
-  head-next zero-is {c} e =
-      let all = passes q (head-number ∙ zero-is) in
-      let g = along q in
-      let made : c ≡ withLine b (head account identity day) = e ∙ head-book-is b account identity day (head-passes b account identity day (eqb (line - 1) 0) all .0) in
-      next-line q all made
-      (along-empty c highs lows free (subst Sound (sym made) (keeps q all)) (ap (λ (z : Book). z .held) e) (ap (λ (z : Book). z .paired) e) (g .highs-long) (g .lows-long) (g .free-long))
+  head-passed : AtLine t (headed b account (identity % 256) day) highs lows free line (end + 1)
+  unfolding noBook emptyBook bookOf
+  head-passed =
+      let g = behind q in
+      let made = head-book-is b account identity day still-none (head-passes b account identity day (eqb (line - 1) 0) (q .passes) .0) in
+      next-line q made
+      (along-empty (headed b account (identity % 256) day) highs lows free (subst Sound (sym made) (keeps q)) (ap (λ (z : Book). z .held) still-none) (ap (λ (z : Book). z .paired) still-none) (g .highs-long) (g .lows-long) (g .free-long))
 
 -- An H line.
-module _ {t : List ℕ} {b : Book} {highs lows free : List ℕ} {line at end : ℕ} {h : Holding} (q : SaidRow t b highs lows free line at end (holding h)) {number : ℕ} (is : number ≡ numberOfHolding h (getD (b .holdings) (b .held - 1) noRow) (eqb line 1) (b .held) (b .paired)) where
-  own-number : firstFailing (lineChecks (eqb (line - 1) 0) b (holding h)) ≡ number
-  own-number = holding-number (along q .sound) (eqb (line - 1) 0) h (first-same q (λ (first : Bool). numberOfHolding h (getD (b .holdings) (b .held - 1) noRow) first (b .held) (b .paired)) is)
+module _ {t : List ℕ} {b : Book} {highs lows free : List ℕ} {line at end : ℕ} {h : Holding} (q : PassedRow t b highs lows free line at end (holding h)) where
+  next-holding : NextHolding b h
+  next-holding = holding-passes b h (holdings-count (behind q .sound)) (eqb (line - 1) 0) (q .passes)
 
-  pub holding-refused : (number ≡ 0 → ⊥) → refusedAt number line ≡ answerOf t
-  holding-refused n = refused-by q own-number n
+  held-room : b .held < 128
+  held-room = let c = holdings-count (behind q .sound) in let r = next-holding .row .room in omega arith
 
-  module _ (zero-is : number ≡ 0) where
-    all-pass : allPass (lineChecks (eqb (line - 1) 0) b (holding h)) ≡ true
-    all-pass = passes q (own-number ∙ zero-is)
+  holding-passed : {highs' lows' free' : List ℕ} → (highs' ≡ set highs (b .held) (highKey (h .series))) × ((lows' ≡ set lows (b .held) (natureKey (h .series .nature))) × (free' ≡ set (set free (2 * b .held) (h .long)) (2 * b .held + 1) (h .short))) → AtLine t (heldRows b (set (b .holdings) (b .held) h) (b .held + 1)) highs' lows' free' line (end + 1)
+  holding-passed e =
+      rw (e .0, e .1 .0, e .1 .1)
+      (next-line q (holding-book-is (behind q) next-holding) (holding-along (behind q) next-holding (keeps q)))
 
-    next-holding : NextHolding b h
-    next-holding = holding-passes b h (holdings-count (along q .sound)) (eqb (line - 1) 0) all-pass
+-- An M line.
+module _ {t : List ℕ} {b : Book} {highs lows free : List ℕ} {line at end : ℕ} {p : Pair} (q : PassedRow t b highs lows free line at end (pair p)) where
+  next-pair : NextPair b p
+  next-pair = pair-passes b p (pairs-count (behind q .sound)) (eqb (line - 1) 0) (q .passes)
+
+  paired-room : b .paired < 128
+  paired-room = let c = pairs-count (behind q .sound) in let r = next-pair .row .room in omega arith
+
+  pair-counts : Counts (p .r1) (p .r2) (p .units)
+  pair-counts = counts-are (p .r1) (p .r2) (p .units) (pair-is p (next-pair .row .is-good) .counts)
+
+  pair-passed : {free' : List ℕ} → free' ≡ lessLegs free (firstSlot highs lows (b .held) p) (secondSlot highs lows (b .held) p) p → AtLine t (pairedRows b (set (b .pairs) (b .paired) p) (b .paired + 1)) highs lows free' line (end + 1)
+  pair-passed e = rw e (next-line q (pair-book-is (behind q) next-pair) (pair-along (behind q) next-pair (keeps q)))
+
+-- The same by letter and items, as the loop has them.
+module _ {t : List ℕ} {b : Book} {highs lows free : List ℕ} {line at end letter : ℕ} {items : List Item} (q : PassedLine t b highs lows free line at end letter items) where
+  -- Each line leaves less of the text.
+  pub line-less : length t - (end + 1) < length t - at
+  line-less = let here = q .row .at-row in let begins = here .begins in let low = here .low in omega arith
+
+  passed-as : {x : Line} → lineOf letter items ≡ x → PassedRow t b highs lows free line at end x
+  passed-as e = subst (PassedRow t b highs lows free line at end) e (q .row)
+
+  pub head-next : letter ≡ 65 → AtLine t (headed b (item items 0 .number) (item items 1 .number % 256) (item items 2 .number)) highs lows free line (end + 1)
+  head-next l = head-passed (passed-as (says-head items l))
+
+  module _ (l : letter ≡ 72) {h : Holding} (h-is : h ≡ holdingOf items) where
+    as-holding : PassedRow t b highs lows free line at end (holding h)
+    as-holding = passed-as (says-holding items l ∙ ap holding (sym h-is))
 
     pub holding-room : b .held < 128
-    holding-room = let c = holdings-count (along q .sound) in let r = next-holding .row .room in omega arith
+    holding-room = held-room as-holding
+
+    pub holding-lasts : {last : Holding} {newest : Pair} → Lasts b last newest → Lasts (heldRows b (set (b .holdings) (b .held) h) (b .held + 1)) h newest
+    holding-lasts lasts = holding-last (behind as-holding) (next-holding as-holding) lasts
 
     -- what the entry of the row asks for
     pub entry-asks : (b .held < 128) × ((b .held < length highs) × ((b .held < length lows) × (2 * b .held + 1 < length free)))
     entry-asks =
         let room = holding-room in
-        let h = along q .highs-long in
-        let l = along q .lows-long in
-        let f = along q .free-long in
+        let g = behind (q .row) in
+        let hl = g .highs-long in
+        let ll = g .lows-long in
+        let fl = g .free-long in
         (omega arith, (omega arith, (omega arith, omega arith)))
 
     pub holding-next : {highs' lows' free' : List ℕ} → (highs' ≡ set highs (b .held) (highKey (h .series))) × ((lows' ≡ set lows (b .held) (natureKey (h .series .nature))) × (free' ≡ set (set free (2 * b .held) (h .long)) (2 * b .held + 1) (h .short))) → AtLine t (heldRows b (set (b .holdings) (b .held) h) (b .held + 1)) highs' lows' free' line (end + 1)
-    holding-next e =
-        rw (e .0, e .1 .0, e .1 .1)
-        (next-line q all-pass (holding-book-is (along q) next-holding) (holding-along (along q) next-holding (keeps q all-pass)))
+    holding-next e = holding-passed as-holding e
 
--- An M line.
-module _ {t : List ℕ} {b : Book} {highs lows free : List ℕ} {line at end : ℕ} {p : Pair} (q : SaidRow t b highs lows free line at end (pair p)) {number : ℕ} (is : number ≡ numberOfPair p (getD (b .pairs) (b .paired - 1) noPair) (eqb line 1) (b .paired)) where
-  worked : number ≡ numberOfPair p (getD (b .pairs) (b .paired - 1) noPair) (eqb (line - 1) 0) (b .paired)
-  worked = first-same q (λ (first : Bool). numberOfPair p (getD (b .pairs) (b .paired - 1) noPair) first (b .paired)) is
+  module _ (l : letter ≡ 77) {p : Pair} (p-is : p ≡ pairOf items) where
+    as-pair : PassedRow t b highs lows free line at end (pair p)
+    as-pair = passed-as (says-pair items l ∙ ap pair (sym p-is))
 
-  but-last : firstFailing (lineChecks (eqb (line - 1) 0) b (pair p)) ≡ orElse number (pick (both (legFree b (firstLeg p)) (legFree b (secondLeg p))) 0 9)
-  but-last = pair-number (along q .sound) (eqb (line - 1) 0) p worked
+    pub pair-room : b .paired < 128
+    pair-room = paired-room as-pair
 
-  pub pair-refused : (number ≡ 0 → ⊥) → refusedAt number line ≡ answerOf t
-  pair-refused n = refused-by q (but-last ∙ sym (or-number number _ (omega arith))) n
-
-  module _ (zero-is : number ≡ 0) where
-    pub first-passes : FirstPasses p (b .paired)
-    first-passes = first-pass p (getD (b .pairs) (b .paired - 1) noPair) (eqb (line - 1) 0) (b .paired) (sym worked ∙ zero-is)
+    pub pair-lasts : {last : Holding} {newest : Pair} → Lasts b last newest → Lasts (pairedRows b (set (b .pairs) (b .paired) p) (b .paired + 1)) last p
+    pair-lasts lasts = pair-last (behind as-pair) (next-pair as-pair) lasts
 
     -- what the legs ask for
-    pub legs-ask : (Counts (p .r1) (p .r2) (p .units)) × (b .held ≤ 128)
-    legs-ask = (first-passes .counts, along q .sound .holdings-sound .few)
+    pub legs-ask : Counts (p .r1) (p .r2) (p .units)
+    legs-ask = pair-counts as-pair
 
-    module _ {enough : Bool} {free' : List ℕ} (legs : (enough ≡ legsFound highs lows free (b .held) p) × (free' ≡ legsTaken highs lows free (b .held) p)) where
-      last-number : firstFailing (lineChecks (eqb (line - 1) 0) b (pair p)) ≡ pick enough 0 9
-      last-number =
-          let free-legs = legs .0 ∙ legs-are-free (along q) p (first-passes .first-good) (first-passes .second-good) in
-          but-last ∙ rw (zero-is, sym free-legs)
-
-      pub lots-refused : not enough ≡ true → refusedAt 9 line ≡ answerOf t
-      lots-refused e = refused-by q (last-number ∙ ap (λ (z : Bool). pick z 0 9) (not-true enough e)) (λ z. omega arith)
-
-      pub pair-next : not enough ≡ false → AtLine t (pairedRows b (set (b .pairs) (b .paired) p) (b .paired + 1)) highs lows free' line (end + 1)
-      unfolding legsTaken
-      pair-next e =
-          let all = passes q (last-number ∙ ap (λ (z : Bool). pick z 0 9) (not-false enough e)) in
-          let next = pair-passes b p (pairs-count (along q .sound)) (eqb (line - 1) 0) all in
-          let found : legsFound highs lows free (b .held) p ≡ true = sym (legs .0) ∙ not-false enough e in
-          rw (legs .1, found)
-          (next-line q all (pair-book-is (along q) next) (pair-along (along q) next (keeps q all)))
+    pub pair-next : {legs : Legs} {free' : List ℕ} → legs ≡ legsAt highs lows free (b .held) letter p → free' ≡ lessLegs free (legs .first) (legs .second) p → AtLine t (pairedRows b (set (b .pairs) (b .paired) p) (b .paired + 1)) highs lows free' line (end + 1)
+    unfolding legsAt
+    pair-next found e = pair-passed as-pair (rw (rw l at found) at e)
 
 -- The whole text: too long, empty, or read line by line.
 module _ (t : List ℕ) where
-  pub text-long : 16384 < length t → refusedAt 2 0 ≡ readText t
-  unfolding readText
+  pub text-long : 16384 < length t → refusedAt 2 0 ≡ readBook t
+  unfolding readBook
   text-long h = rw (lt-leb (length t) 16384 h)
 
-  pub text-empty : length t ≤ 16384 → length t ≡ 0 → refusedAt 1 0 ≡ readText t
-  unfolding readText
+  pub text-empty : length t ≤ 16384 → length t ≡ 0 → refusedAt 1 0 ≡ readBook t
+  unfolding readBook
   text-empty le e = rw (le-leb (length t) 16384 le, eq-eqb (length t) 0 e)
 
-  pub text-read : length t ≤ 16384 → (length t ≡ 0 → ⊥) → answerOf t ≡ readText t
-  unfolding readText
+  pub text-read : length t ≤ 16384 → (length t ≡ 0 → ⊥) → answerOf t ≡ readBook t
+  unfolding readBook
   text-read le n = rw (le-leb (length t) 16384 le, ne-eqb (length t) 0 n)

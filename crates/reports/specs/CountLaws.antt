@@ -14,14 +14,14 @@ use Rattle.laws.specs.Bytes.{sameBytes}
 use Rattle.laws.specs.ByteLaws.{are-same}
 use Rattle.laws.specs.Checks.{allPass}
 use Rattle.laws.specs.Search.{everyLine, gathered}
-use Rattle.lines.specs.Parts.{lf, Parts, one, more, splitOn, fieldsOf, nextOf}
+use Rattle.lines.specs.Pieces.{lf, Pieces, one, more, splitOn, fieldsOf, nextOf}
 use Rattle.lines.specs.Texts.{tabbed}
 use Rattle.lines.specs.CutLaws.{next-low, part-more, part-last}
 use Rattle.lines.specs.StopLaws.{next-byte}
-use Rattle.lines.specs.PartLaws.{fields-back}
+use Rattle.lines.specs.PieceLaws.{fields-back}
 use Rattle.lines.specs.Fields.{hasForm, cellsOf}
-use Rattle.checking.specs.Lines.{Line, formless, letterIn, formOf, said, lineBy, lineFrom, lineOf, ownChecks}
-use Rattle.checking.specs.Reading.{futureRow, optionRow, stockRow, priceRow, rowsOf, Judged, accepted, judged}
+use Rattle.sheet_lines.specs.Lines.{Line, formless, letterIn, formOf, said, lineBy, lineFrom, sheetLine, ownChecks}
+use Rattle.checking.specs.Reading.{futureRow, optionRow, stockRow, priceRow, rowsOf, Judged, judgedAs, judged}
 use Rattle.checking.specs.Next.{linesIn}
 use Rattle.checking.specs.SheetLaws.{judged-good, judged-accepted, judged-lines}
 use Rattle.reports.specs.Counts.{firstByte, oneIf, linesWith}
@@ -102,8 +102,8 @@ module _ (fs : List (List ℕ)) where
       P : ℕ → Type 0
       P letter = Passes (lineBy letter fs) → Begins (firstByte (f ++ tabbed fs)) (lineBy letter fs)
 
-line-begins : (line : List ℕ) → Passes (lineOf line) → Begins (firstByte line) (lineOf line)
-unfolding lineOf lineFrom ownChecks allPass
+line-begins : (line : List ℕ) → Passes (sheetLine line) → Begins (firstByte line) (sheetLine line)
+unfolding sheetLine lineFrom ownChecks allPass
 line-begins line = go (fieldsOf line) refl
   where
     go : (fs : List (List ℕ)) → fieldsOf line ≡ fs → Passes (lineFrom fs) → Begins (firstByte line) (lineFrom fs)
@@ -112,16 +112,16 @@ line-begins line = go (fieldsOf line) refl
 
 -- In a text that is accepted the rows of a group are as many as the lines that begin with its letter.
 all-lines : (t : List ℕ) → judged t .number ≡ 0 → judged t .lines ≡ linesIn (splitOn lf t)
-unfolding accepted
+unfolding judgedAs
 all-lines t e = ap (λ (j : Judged). j .lines) (judged-lines t (sym (judged-accepted t) ∙ eq-eqb _ _ e))
 
 module _ {A : Type 0} (letter : ℕ) (row : Line → List A) (each : (first : ℕ) (x : Line) → Begins first x → length (row x) ≡ oneIf first letter) where
-  rows-begin : (ps : Parts) → everyLine (λ (x : Line). allPass (ownChecks x)) (linesIn ps) ≡ true → linesWith letter ps ≡ length (gathered row (linesIn ps))
+  rows-begin : (ps : Pieces) → everyLine (λ (x : Line). allPass (ownChecks x)) (linesIn ps) ≡ true → linesWith letter ps ≡ length (gathered row (linesIn ps))
   unfolding everyLine gathered linesIn linesWith
   rows-begin (one rest) e = refl
   rows-begin (more line ls) e =
-      let p = both-true (allPass (ownChecks (lineOf line))) _ e in
-      rw (← each _ _ (line-begins line (p .0)), rows-begin ls (p .1)) (sym (length-append (row (lineOf line)) _))
+      let p = both-true (allPass (ownChecks (sheetLine line))) _ e in
+      rw (← each _ _ (line-begins line (p .0)), rows-begin ls (p .1)) (sym (length-append (row (sheetLine line)) _))
 
   group-counted : (t : List ℕ) → judged t .number ≡ 0 → linesWith letter (splitOn lf t) ≡ length (gathered row (judged t .lines))
   group-counted t e = let own = judged-good t .own in rw (all-lines t e) (rows-begin (splitOn lf t) (rw (all-lines t e) at own))

@@ -5,7 +5,7 @@ use Prim.Native.Nat.{ℕ, _+_}
 use lib.Dec.{eqb}
 use lib.ListN.{getD}
 use Rattle.laws.specs.Truth.{pick}
-use Rattle.lines.specs.Parts.{lf, Parts, one, more}
+use Rattle.lines.specs.Pieces.{lf, Pieces, one, more}
 
 -- the byte that a line begins with: where it is empty, its LF
 unfoldable pub firstByte : List ℕ → ℕ
@@ -15,6 +15,6 @@ abbrev pub oneIf : ℕ → ℕ → ℕ
 oneIf first letter = pick (eqb first letter) 1 0
 
 -- how many lines of a text begin with this byte
-unfoldable pub linesWith : ℕ → Parts → ℕ
+unfoldable pub linesWith : ℕ → Pieces → ℕ
 linesWith letter (one rest) = 0
 linesWith letter (more line ls) = oneIf (firstByte line) letter + linesWith letter ls

@@ -9,15 +9,14 @@ use lib.ListN.{length}
 use Rattle.laws.specs.TruthLaws.{picked}
 use Rattle.laws.specs.Text.{byte}
 use Rattle.digits.specs.Digits.{fixed, numerals}
-use Rattle.lines.specs.Parts.{lf, splitOn}
-use Rattle.printed.specs.PrintedLaws.{field-fits, last-fits, line-fits, fixed-few}
+use Rattle.lines.specs.Pieces.{lf, splitOn}
 use Rattle.rows.specs.declared.Book.{Book}
 use Rattle.reading.specs.declared.Answer.{Answer}
 use Rattle.sheets.specs.declared.Sheet.{Sheet}
 use Rattle.sheets.specs.Sheet.{laidOut}
-use Rattle.checking.specs.Reading.{Judged, rowsOf, judged, sheetOf, readText}
-use Rattle.statement.specs.Statement.{refusalText}
-use Rattle.statement.specs.StatementLaws.{numerals-most, refusal-fits}
+use Rattle.checking.specs.Reading.{Judged, rowsOf, judged, sheetOf, readSheet}
+use Rattle.put.specs.Output.{refusalText}
+use Rattle.put.specs.LineLaws.{field-fits, last-fits, line-fits, fixed-few, numerals-most, refusal-fits}
 use Rattle.reports.specs.Reports.{bookText, countsText, sheetText, bookReport, sheetReport}
 use Rattle.reports.specs.Counts.{linesWith}
 use Rattle.reports.specs.CountLaws.{futures-counted, options-counted, stocks-counted, prices-counted}
@@ -70,17 +69,17 @@ module _ (a : Answer) where
   unfolding bookReport
   book-told h = simp (eq-eqb _ _ h)
 
-module _ (t : List ℕ) (s : Sheet) (read : s ≡ readText t) where
+module _ (t : List ℕ) (s : Sheet) (read : s ≡ readSheet t) where
   number-is : s .number ≡ judged t .number
-  unfolding readText sheetOf laidOut
+  unfolding readSheet sheetOf laidOut
   number-is = ap (λ (z : Sheet). z .number) read
 
   pub sheet-refused : (s .number ≡ 0 → ⊥) → refusalText (s .number) (s .line) ≡ sheetReport (judged t)
-  unfolding sheetReport readText sheetOf laidOut
+  unfolding sheetReport readSheet sheetOf laidOut
   sheet-refused h = rw read (simp (ne-eqb _ _ (λ e. h (number-is ∙ e))))
 
   pub sheet-told : s .number ≡ 0 → {futures options stocks prices : ℕ} → futures ≡ linesWith (byte "F") (splitOn lf t) → options ≡ linesWith (byte "O") (splitOn lf t) → stocks ≡ linesWith (byte "S") (splitOn lf t) → prices ≡ linesWith (byte "Q") (splitOn lf t) → countsText (s .day) futures options stocks prices ≡ sheetReport (judged t)
-  unfolding sheetReport sheetText readText sheetOf laidOut
+  unfolding sheetReport sheetText readSheet sheetOf laidOut
   sheet-told h f o k q =
       let e = sym number-is ∙ h in
       rw (read, f ∙ futures-counted t e, o ∙ options-counted t e, k ∙ stocks-counted t e, q ∙ prices-counted t e) (simp (eq-eqb _ _ e))

@@ -12,7 +12,7 @@ use Rattle.rows.specs.declared.Book.{Book}
 use Rattle.reading.specs.declared.Answer.{Answer}
 use Rattle.sheets.specs.Rows.{Rows}
 use Rattle.checking.specs.Reading.{Judged, rowsOf}
-use Rattle.statement.specs.Statement.{refusalText}
+use Rattle.put.specs.Output.{refusalText}
 
 -- `A account identity day`, then how many holdings and pairs there are
 unfoldable pub bookText : Book → List ℕ

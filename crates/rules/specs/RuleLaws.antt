@@ -26,7 +26,7 @@ use Rattle.rows.specs.RowLaws.{empty-holding, empty-pair, empty-holding-is, emp
 use Rattle.rows.specs.Book.{holdingsOf, pairsOf, bookOf}
 use Rattle.rules.specs.Lots.{covered}
 use Rattle.rules.specs.LotLaws.{covered-all, all-covered}
-use Rattle.rules.specs.Rules.{accountFits, isIdentity, ratioFits, lotsFit, countsFit, goodHolding, goodPair, rowsSound, holdingsSound, pairsSound, bookRules, soundBook}
+use Rattle.rules.specs.Rules.{accountFits, isIdentity, ratioFits, lotsFit, countsFit, goodLots, goodHolding, goodPair, rowsSound, holdingsSound, pairsSound, bookRules, soundBook}
 use Rattle.rules.specs.Facts.{SoundRows, GoodHolding, Counts, GoodPair, Sound}
 
 module _ {A : Type 0} (isEmpty good : A → Bool) (empty : A) (rank : A → List ℕ) where
@@ -78,7 +78,7 @@ sound-full empty good rank l few g a =
     }
 
 pub holding-is : (h : Holding) → goodHolding h ≡ true → GoodHolding h
-unfolding goodHolding
+unfolding goodHolding goodLots
 holding-is h e =
     let s = both-true (goodSeries (h .series)) _ e in
     let l = both-true (leb (h .long) 100000) _ (s .1) in
@@ -86,7 +86,7 @@ holding-is h e =
     record { series-good = s .0; long-fits = leb-true (h .long) 100000 (l .0); short-fits = leb-true (h .short) 100000 (t .0); some = not-true _ (t .1) }
 
 pub holding-back : (h : Holding) → GoodHolding h → goodHolding h ≡ true
-unfolding goodHolding
+unfolding goodHolding goodLots
 holding-back h g = rw (g .series-good, le-leb (h .long) 100000 (g .long-fits), le-leb (h .short) 100000 (g .short-fits), g .some)
 
 pub counts-are : (r1 r2 units : ℕ) → countsFit r1 r2 units ≡ true → Counts r1 r2 units

@@ -42,9 +42,13 @@ countsFit r1 r2 units =
     (both (lotsFit (r1 * units))
     (lotsFit (r2 * units)))))
 
--- "A holding is a series with long and short totals, each 0 to 100,000, not both 0"
+-- "long and short totals, each 0 to 100,000, not both 0"
+unfoldable pub goodLots : Holding → Bool
+goodLots h = both (leb (h .long) 100000) (both (leb (h .short) 100000) (not (noLots h)))
+
+-- "A holding is a series with long and short totals"
 unfoldable pub goodHolding : Holding → Bool
-goodHolding h = both (goodSeries (h .series)) (both (leb (h .long) 100000) (both (leb (h .short) 100000) (not (noLots h))))
+goodHolding h = both (goodSeries (h .series)) (goodLots h)
 
 -- "A pair is a kind, first and second series, lots per unit r1 and r2, and units", and may stand
 unfoldable pub goodPair : Pair → Bool

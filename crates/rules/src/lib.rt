@@ -3,7 +3,7 @@ ghost use mathlib.Core.Path.{_≡_};
 ghost use lib.ListN.{drop};
 ghost use Rattle.laws.specs.Search.{everyLine};
 ghost use Rattle.rows.specs.Rows.{isEmptyHolding, isEmptyPair};
-ghost use Rattle.rules.specs.Rules.{accountFits, isIdentity, countsFit, goodHolding};
+ghost use Rattle.rules.specs.Rules.{accountFits, isIdentity, countsFit, goodLots, goodHolding};
 use rows::Holding;
 use rows::Pair;
 
@@ -39,16 +39,19 @@ pub fn counts_fit(r1: u32, r2: u32, units: u32) -> bool
     )
 }
 
+// Whether a holding's totals are in their range, and are some.
+pub fn lots_good(h: Holding) -> bool
+    ensures { λ r. ⌜ r ≡ goodLots h ⌝ }
+{
+    let some = !rows::no_lots(h);
+    laws::and(h.long <= 100000, laws::and(h.short <= 100000, some))
+}
+
 pub fn good_holding(h: Holding) -> bool
     ensures { λ r. ⌜ r ≡ goodHolding h ⌝ }
 {
     let s = h.series;
-    let good = series::series_number(s) == 0;
-    let some = !rows::no_lots(h);
-    laws::and(
-        good,
-        laws::and(h.long <= 100000, laws::and(h.short <= 100000, some)),
-    )
+    laws::and(series::series_number(s) == 0, lots_good(h))
 }
 
 // Whether the rows behind the first `held` are empty.

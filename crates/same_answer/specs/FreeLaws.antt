@@ -10,7 +10,7 @@ use Rattle.series.specs.declared.Series.{Series}
 use Rattle.series.specs.Natures.{isFuture}
 use Rattle.levels.specs.Levels.{flat}
 use Rattle.rows.specs.declared.Holding.{Holding}
-use Rattle.quotes.specs.View.{View}
+use Rattle.sheets.specs.View.{View}
 use Rattle.quotes.specs.Quotes.{quoteOf}
 use Rattle.account.specs.Needed.{chargedLots, linesOf, neededByHolding}
 use Rattle.account.specs.Margin.{times, holdingMargin}

@@ -4,3 +4,4 @@ pub mod OpenLaws
 pub mod Sample
 pub mod SampleLaws
 pub mod IdleLaws
+pub mod LimitLaws

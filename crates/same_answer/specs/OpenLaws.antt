@@ -37,8 +37,8 @@ use Rattle.calls.specs.PassLaws.{open-passes}
 use Rattle.calls.specs.OpenLaws.{open-sound}
 use Rattle.calls.specs.PairedLaws.{one-series}
 use Rattle.sheets.specs.declared.Sheet.{Sheet}
-use Rattle.checking.specs.Reading.{readText}
-use Rattle.quotes.specs.View.{View, sheetView}
+use Rattle.checking.specs.Reading.{readSheet}
+use Rattle.sheets.specs.View.{View, sheetView}
 use Rattle.quotes.specs.Quotes.{SheetLine, onSheet}
 use Rattle.account.specs.declared.Margin.{Margin}
 use Rattle.account.specs.Needed.{neededByHolding, neededByPair, neededBy}
@@ -171,5 +171,5 @@ module _ {b : Book} {s : Series} {n : ℕ} (o : Opens b s Long n) (option : isFu
 pub open-long-free : (b : Book) (s : Series) (n : ℕ) → isFuture (s .nature) ≡ false → (t : List ℕ) → marginText (openAnswer b s Long n .book) t ≡ marginText b t
 unfolding openAnswer marginText
 open-long-free b s n option t =
-    outcome-has (openChecks b s Long n) b (opened b s Long n) (λ (c : Book). marginOn c (readText t) ≡ marginOn b (readText t)) refl
-    (λ all. opened-call (open-passes b s Long n all) option (readText t))
+    outcome-has (openChecks b s Long n) b (opened b s Long n) (λ (c : Book). marginOn c (readSheet t) ≡ marginOn b (readSheet t)) refl
+    (λ all. opened-call (open-passes b s Long n all) option (readSheet t))

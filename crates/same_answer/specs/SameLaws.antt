@@ -1,5 +1,5 @@
--- "Two books of one account, code and day with the same free lots and pairs": where both are sound, every margin call answers the same of
--- both (history/SameLaws: they are one book).
+-- "Two books of the same account, client code and day, with the same lots free and the same pairs": where both are sound, every margin call
+-- answers the same of both (history/SameLaws: they are one book).
 use mathlib.Core.Path.{_≡_, ap}
 use mathlib.Core.Bool.{true}
 use mathlib.Core.List.{List}

@@ -1,5 +1,6 @@
 -- Document 01, "Values at the edges": what the paper's example prints.
 use mathlib.Core.Path.{_≡_, refl}
+use mathlib.Core.List.{[], _∷_}
 use Rattle.laws.specs.Bytes.{sameBytes}
 use Rattle.laws.specs.Checks.{firstFailing, allPass}
 use Rattle.laws.specs.Kinds.{byKind}
@@ -17,11 +18,11 @@ use Rattle.pairing.specs.Sides.{firstSide, secondSide}
 use Rattle.rows.specs.Book.{holdingsOf, pairsOf, bookOf, emptyBook, holdingIn}
 use Rattle.rows.specs.Rows.{seriesRank, holdingRank, pairRank, sameSeries, emptyHolding, emptyPair, isEmptySeries, isEmptyHolding, isEmptyPair}
 use Rattle.rules.specs.Lots.{firstLeg, secondLeg, ties, tiedBy, tied, total, freeHolding, freeRows, legCovered, pairCovered, covered}
-use Rattle.rules.specs.Rules.{countsFit, goodHolding, goodPair, rowsSound, holdingsSound, pairsSound, bookRules, soundBook}
+use Rattle.rules.specs.Rules.{countsFit, goodLots, goodHolding, goodPair, rowsSound, holdingsSound, pairsSound, bookRules, soundBook}
 use Rattle.halving.specs.Halving.{halved, placeOf, findIn}
 use Rattle.digits.specs.Digits.{isDigit, valueFrom, valueOf, noLeadingZero, isNumber, isFixed, figureOf}
 use Rattle.lines.specs.Fields.{codeIn, markIn, cellOf, hasForm, cellsOf, natureOf, seriesOf}
-use Rattle.lines.specs.Parts.{splitOn, listOf, fieldsOf}
+use Rattle.lines.specs.Pieces.{lf, splitOn, listOf, fieldsOf}
 use Rattle.rounding.specs.Rounding.{stepsNear, halfUp, toDollar}
 use Rattle.levels.specs.Levels.{flat}
 use Rattle.levels.specs.Ranges.{clearingFits, levelsFit}
@@ -31,11 +32,11 @@ use Rattle.amounts.specs.Singles.{portion, worth, dollars, premiumValue, outOfM
 use Rattle.units.specs.Units.{lowerPremium, mixedAt, mixedMargin, formula}
 use Rattle.sheets.specs.Rows.{futureCodes, optionCodes, noIndex, clearingIn, indexIn}
 use Rattle.sheets.specs.Sheet.{placeIn, futurePlace, optionPlace, soughtIn, priceAmong, laidOut, clearingOn, indexOn, priceOn}
-use Rattle.checking.specs.Lines.{headForm, optionForm, priceForm, optionFrom, priceFrom, letterIn, formOf, said, lineBy, lineFrom, lineOf, rank, ownChecks, checksBy, lineChecks}
-use Rattle.checking.specs.Reading.{dayOf, futureRow, optionRow, priceRow, rowsOf, accepted, judgeLines, judged, sheetOf, readText}
+use Rattle.sheet_lines.specs.Lines.{headForm, optionForm, priceForm, optionFrom, priceFrom, letterIn, formOf, said, lineBy, lineFrom, sheetLine, rank, ownChecks, checksBy, lineChecks}
+use Rattle.checking.specs.Reading.{dayOf, futureRow, optionRow, priceRow, rowsOf, refusedAt, judgedAs, judgeLines, judged, sheetOf, readSheet}
 use Rattle.quotes.specs.Quotes.{onSheet, ownLine, lotLines, clearingSaid, priceSaid, lotAs, termsAs, quoteAs, quoteOf}
-use Rattle.quotes.specs.View.{sheetView}
-use Rattle.account.specs.Margin.{holdingMargin, pairMargin, sumLevels, accountMargin, marginChecks, marginNumber, marginOn, marginText}
+use Rattle.sheets.specs.View.{sheetView}
+use Rattle.account.specs.Margin.{holdingMargin, pairMargin, sumLevels, accountMargin, marginChecks, marginNumber, marginLine, marginOn, marginText}
 use Rattle.account.specs.Needed.{chargedLots, ownLineOf, linesOf, neededByHolding, neededByPair, neededBy}
 use Rattle.same_answer.specs.Sample.{october, call, put, sampleBook, sampleSheet, nothingHeld}
 
@@ -43,7 +44,10 @@ use Rattle.same_answer.specs.Sample.{october, call, put, sampleBook, sam
 pub record Sampled : Type 0 where
   pub sample : marginText sampleBook sampleSheet ≡ record { number = 0; line = 0; levels = record { clearing = 53200; maintenance = 54300; initial = 59800 } }
   pub nothing : marginText nothingHeld sampleSheet ≡ record { number = 0; line = 0; levels = flat 0 }
+  -- on no text, and on a blank line
+  pub no-sheet : marginText nothingHeld [] ≡ record { number = 1; line = 0; levels = flat 0 }
+  pub blank-sheet : marginText nothingHeld (lf ∷ []) ≡ record { number = 1; line = 1; levels = flat 0 }
 
 pub sampled : Sampled
-unfolding october call put sampleBook sampleSheet nothingHeld sameBytes firstFailing allPass byKind orderOf bytesOrder join firstWhere everyLine gathered full sumOf ascendingFrom ascending look dayOf shortMonth daysIn isDay listed productOf classOf seriesChecks goodSeries codeKey natureKey highKey key sameCode callThenPut oneToOne twoShort partsOf pairChecks mayStand firstSide secondSide holdingsOf pairsOf bookOf emptyBook holdingIn seriesRank holdingRank pairRank sameSeries emptyHolding emptyPair isEmptySeries isEmptyHolding isEmptyPair firstLeg secondLeg ties tiedBy tied total freeHolding freeRows legCovered pairCovered covered countsFit goodHolding goodPair rowsSound holdingsSound pairsSound bookRules soundBook halved placeOf findIn isDigit valueFrom valueOf noLeadingZero isNumber isFixed figureOf codeIn markIn cellOf hasForm cellsOf natureOf seriesOf splitOn listOf fieldsOf stepsNear halfUp toDollar clearingFits levelsFit indexFits optionFits indexAsked termsAsked indexOption indexTerms portion worth dollars premiumValue outOfMoney single indexMargin lowerPremium mixedAt mixedMargin formula futureCodes optionCodes noIndex clearingIn indexIn placeIn futurePlace optionPlace soughtIn priceAmong laidOut clearingOn indexOn priceOn headForm optionForm priceForm optionFrom priceFrom letterIn formOf said lineBy lineFrom lineOf rank ownChecks checksBy lineChecks futureRow optionRow priceRow rowsOf accepted judgeLines judged sheetOf readText onSheet ownLine lotLines clearingSaid priceSaid lotAs termsAs quoteAs quoteOf sheetView holdingMargin pairMargin sumLevels accountMargin marginChecks marginNumber marginOn marginText chargedLots ownLineOf linesOf neededByHolding neededByPair neededBy
-sampled = record { sample = refl; nothing = refl }
+unfolding october call put sampleBook sampleSheet nothingHeld sameBytes firstFailing allPass byKind orderOf bytesOrder join firstWhere everyLine gathered full sumOf ascendingFrom ascending look dayOf shortMonth daysIn isDay listed productOf classOf seriesChecks goodSeries codeKey natureKey highKey key sameCode callThenPut oneToOne twoShort partsOf pairChecks mayStand firstSide secondSide holdingsOf pairsOf bookOf emptyBook holdingIn seriesRank holdingRank pairRank sameSeries emptyHolding emptyPair isEmptySeries isEmptyHolding isEmptyPair firstLeg secondLeg ties tiedBy tied total freeHolding freeRows legCovered pairCovered covered countsFit goodLots goodHolding goodPair rowsSound holdingsSound pairsSound bookRules soundBook halved placeOf findIn isDigit valueFrom valueOf noLeadingZero isNumber isFixed figureOf codeIn markIn cellOf hasForm cellsOf natureOf seriesOf splitOn listOf fieldsOf stepsNear halfUp toDollar clearingFits levelsFit indexFits optionFits indexAsked termsAsked indexOption indexTerms portion worth dollars premiumValue outOfMoney single indexMargin lowerPremium mixedAt mixedMargin formula futureCodes optionCodes noIndex clearingIn indexIn placeIn futurePlace optionPlace soughtIn priceAmong laidOut clearingOn indexOn priceOn headForm optionForm priceForm optionFrom priceFrom letterIn formOf said lineBy lineFrom sheetLine rank ownChecks checksBy lineChecks futureRow optionRow priceRow rowsOf refusedAt judgedAs judgeLines judged sheetOf readSheet onSheet ownLine lotLines clearingSaid priceSaid lotAs termsAs quoteAs quoteOf sheetView holdingMargin pairMargin sumLevels accountMargin marginChecks marginNumber marginLine marginOn marginText chargedLots ownLineOf linesOf neededByHolding neededByPair neededBy
+sampled = record { sample = refl; nothing = refl; no-sheet = refl; blank-sheet = refl }

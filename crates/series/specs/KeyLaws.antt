@@ -10,7 +10,7 @@ use Rattle.laws.specs.declared.Order.{Order}
 use Rattle.laws.specs.declared.Order.the-variants.{Less, Same}
 use Rattle.laws.specs.TruthLaws.{both-true, within-true}
 use Rattle.laws.specs.Order.{orderOf, thenBy, bytesOrder, join}
-use Rattle.laws.specs.OrderLaws.{join-order, both-same, then-by-then, then-same, same-text, is-less, is-same, less-says, same-says, split, three-order}
+use Rattle.laws.specs.OrderLaws.{join-order, both-same, then-by-then, then-same, same-text, is-less, less-says, same-says, split, three-order}
 use Rattle.series.specs.declared.Series.{Series}
 use Rattle.codes.specs.declared.Class.{Class}
 use Rattle.series.specs.declared.Nature.{Nature}
@@ -107,10 +107,6 @@ same-fitting a b fa fb e =
 
 pub same-series : (a b : Series) → goodSeries a ≡ true → goodSeries b ≡ true → seriesOrder a b ≡ Same → a ≡ b
 same-series a b ga gb e = same-fitting a b (good-fits a ga) (good-fits b gb) e
-
-pub self-same : (a : Series) → seriesOrder a a ≡ Same
-unfolding seriesOrder
-self-same a = sym (is-same refl)
 
 -- Of two series that pass the checks one is before the other, or they are one.
 pub total : (a b : Series) → goodSeries a ≡ true → goodSeries b ≡ true → (seriesOrder a b ≡ Less) ⊎ (a ≡ b) ⊎ (seriesOrder b a ≡ Less)

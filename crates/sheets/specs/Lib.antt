@@ -1,5 +1,6 @@
 pub mod Rows
 pub mod Sheet
+pub mod View
 pub mod Seeking
 pub mod SeekLaws
 pub mod TableLaws

@@ -37,6 +37,13 @@ optionPlace code = placeIn optionCodes code
 unfoldable pub stockPlace : List ℕ → ℕ
 stockPlace code = pick (twoCapitals code) ((getD code 0 0 - byte "A") * 26 + (getD code 1 0 - byte "A")) 676
 
+-- the place itself, or the last one where there is no such place; and the row there, where there is
+abbrev pub nearest : ℕ → ℕ
+nearest place = min place 675
+
+abbrev pub rowAt : ℕ → StockLine → StockLine
+rowAt place row = pick (ltb place 676) row noStock
+
 -- the S line of the stock at a place
 unfoldable pub stockAt : List StockRow → ℕ → StockLine
 stockAt rows place = firstWhere (λ (r : StockRow). eqb (stockPlace (r .code)) place) (λ (r : StockRow). r .line) noStock rows

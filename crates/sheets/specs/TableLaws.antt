@@ -3,11 +3,12 @@
 use mathlib.Core.Path.{_≡_, refl, ap, sym, _∙_, subst}
 use mathlib.Core.Bool.{Bool, true, false, not}
 use mathlib.Core.List.{List, [], _∷_, _++_, map}
-use Prim.Native.Nat.{ℕ, zero, suc, _+_, _-_, _*_, _<_, _≤_}
+use Prim.Native.Nat.{ℕ, zero, suc, _+_, _-_, _*_, _<_, _≤_, min}
 use native.Mathlib.Omega.{arith}
-use borrow.Author.Tests.{not-true, eq-eqb, eqb-true}
+use native.Mathlib.Decide.{decLt}
+use borrow.Author.Tests.{not-true, eq-eqb, eqb-true, lt-ltb, le-ltb}
 use lib.Dec.{eqb}
-use lib.ListN.{getD, length, set}
+use lib.ListN.{getD, length, set, List·getD-eq-default}
 use Rattle.laws.specs.Truth.{pick, both, either}
 use Rattle.laws.specs.TruthLaws.{both-true, within-true, by-test, same-test, clash}
 use Rattle.laws.specs.Bytes.{sameBytes}
@@ -15,9 +16,10 @@ use Rattle.laws.specs.ByteLaws.{are-same, same-self, three-bytes}
 use Rattle.laws.specs.Search.{firstWhere, everyLine}
 use Rattle.lists.specs.Sorted.{stands}
 use Rattle.codes.specs.Codes.{capital, namesStock}
+use Rattle.amounts.specs.declared.StockLine.{StockLine}
 use Rattle.sheets.specs.declared.StockRow.{StockRow}
-use Rattle.sheets.specs.Rows.{futureCodes, optionCodes, twoCapitals, stockIn}
-use Rattle.sheets.specs.Sheet.{placeIn, stockPlace, stockAt, tabled}
+use Rattle.sheets.specs.Rows.{futureCodes, optionCodes, twoCapitals, noStock, stockIn}
+use Rattle.sheets.specs.Sheet.{placeIn, stockPlace, nearest, rowAt, stockAt, tabled}
 
 -- no code stands among those behind it
 unfoldable pub different : List (List ℕ) → Bool
@@ -156,3 +158,11 @@ stock-at-place (r ∷ rows) code e two =
     (λ q. subst (λ (c : List ℕ). sameBytes (r .code) c ≡ true) (one-place (r .code) code (t .0) two (eqb-true _ _ q)) (same-self (r .code)))
     (λ q. eq-eqb _ _ (ap stockPlace (are-same (r .code) code q))) in
     rw same (ap (pick (sameBytes (r .code) code) (r .line)) (stock-at-place rows code (t .1) two))
+
+-- The row at a place, read at the nearest place that there is.
+pub row-inside : (rows : List StockLine) (at : ℕ) → length rows ≡ 676 → rowAt at (getD rows (nearest at) noStock) ≡ getD rows at noStock
+row-inside rows at long = go (decLt at 676)
+  where
+    go : Dec (at < 676) → rowAt at (getD rows (nearest at) noStock) ≡ getD rows at noStock
+    go (yes q) = let e : min at 675 ≡ at = omega arith in rw (lt-ltb at 676 q, e) refl
+    go (no q) = rw (le-ltb at 676 (omega arith)) (sym (List·getD-eq-default rows noStock (omega arith)))

@@ -6,7 +6,7 @@ ghost use lib.ListN.{getD, take, replicate};
 ghost use Rattle.laws.specs.Order.{byOrder, bytesOrder};
 ghost use Rattle.halving.specs.Halving.{keyAt, middle};
 ghost use Rattle.sheets.specs.Rows.{twoCapitals, nothing, found, noIndex, noStock, noPrice, noRows};
-ghost use Rattle.sheets.specs.Sheet.{futurePlace, optionPlace, stockPlace, rowKey, priceAmong, filled, pricesAt, laidOut};
+ghost use Rattle.sheets.specs.Sheet.{futurePlace, optionPlace, stockPlace, nearest, rowAt, rowKey, priceAmong, filled, pricesAt, laidOut};
 ghost use Rattle.sheets.specs.Seeking.{searchFrom, foundAt};
 use amounts::IndexLine;
 use amounts::StockLine;
@@ -207,6 +207,20 @@ pub fn stock_place(code: [u8; 3]) -> usize
         return 676;
     }
     (code[0] - b'A') as usize * 26 + (code[1] - b'A') as usize
+}
+
+// A place of S rows that there is: this one, or the last where there is no such place.
+pub fn nearest_place(place: usize) -> usize
+    ensures { λ r. ⌜ r ≡ nearest place ⌝ }
+{
+    if place < 675 { place } else { 675 }
+}
+
+// What stands at a place, of the row that is nearest to it.
+pub fn stock_at(place: usize, row: StockLine) -> StockLine
+    ensures { λ r. ⌜ r ≡ rowAt place row ⌝ }
+{
+    if place < 676 { row } else { no_stock() }
 }
 
 fn middle_of(low: usize, high: usize) -> usize

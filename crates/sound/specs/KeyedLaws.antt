@@ -34,10 +34,10 @@ use Rattle.series.specs.KeyLaws.{halves-order}
 use Rattle.rows.specs.declared.Holding.{Holding}
 use Rattle.rows.specs.Rows.{seriesRank, holdingRank}
 use Rattle.rows.specs.RowLaws.{rank-order}
-use Rattle.rules.specs.Rules.{goodHolding}
+use Rattle.rules.specs.Rules.{goodLots, goodHolding}
 use Rattle.halving.specs.Halving.{keyAt, Rising}
 use Rattle.sound.specs.Checked.{column, highOf, lowOf}
-use Rattle.sound.specs.Walk.{noRow, halves, goodLots, alike, Keyed, KeysAre}
+use Rattle.sound.specs.Walk.{noRow, halves, alike, Keyed, KeysAre}
 use Rattle.sound.specs.ColumnLaws.{column-none, column-long, column-at, column-next}
 use Rattle.sound.specs.StepLaws.{soundFrom, afterLast, sound-start, sound-end, bad-row, turned-row, next-row}
 

@@ -19,7 +19,7 @@ use Rattle.series.specs.KeyLaws.{Fits}
 use Rattle.pairing.specs.Rules.{mayStand}
 use Rattle.rows.specs.declared.Holding.{Holding}
 use Rattle.rows.specs.declared.Pair.{Pair}
-use Rattle.rows.specs.Rows.{holdingRank, pairRank, noLots, emptyHolding, emptyPair, isEmptyHolding, isEmptyPair}
+use Rattle.rows.specs.Rows.{holdingRank, pairRank, emptyHolding, emptyPair, isEmptyHolding, isEmptyPair}
 use Rattle.rules.specs.Rules.{countsFit, goodHolding, goodPair}
 use Rattle.rules.specs.Facts.{SoundRows}
 use Rattle.halving.specs.Halving.{findIn}
@@ -38,10 +38,7 @@ noPair = record { kind = 0; first = noRow .series; second = noRow .series; r1 = 
 abbrev pub halves : Series → List ℕ
 halves s = highKey s ∷ natureKey (s .nature) ∷ []
 
--- the rules of a holding and of a pair, but for their series
-unfoldable pub goodLots : Holding → Bool
-goodLots h = both (leb (h .long) 100000) (both (leb (h .short) 100000) (not (noLots h)))
-
+-- the rules of a pair, but for its series
 unfoldable pub standing : Pair → Bool
 standing p = both (countsFit (p .r1) (p .r2) (p .units)) (mayStand (p .kind) (p .first) (p .second) (p .r1) (p .r2))
 

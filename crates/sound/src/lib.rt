@@ -13,7 +13,7 @@ ghost use Rattle.series.specs.Checks.{goodSeries};
 ghost use Rattle.rules.specs.Lots.{covered};
 ghost use Rattle.rules.specs.Rules.{accountFits, isIdentity, goodHolding, soundBook};
 ghost use Rattle.sound.specs.Checked.{notSound, checkedAs, checkedBook, notWalked, walkedBook};
-ghost use Rattle.sound.specs.Walk.{goodLots, alike, standing, KeysAre, LegKey, LegRow, LegRows, PlacesAre, RoomIs, Walkable};
+ghost use Rattle.sound.specs.Walk.{alike, standing, KeysAre, LegKey, LegRow, LegRows, PlacesAre, RoomIs, Walkable};
 use rows::Book;
 use rows::Holding;
 use rows::Pair;
@@ -76,14 +76,6 @@ fn before(i: usize) -> usize
     if i == 0 { 0 } else { i - 1 }
 }
 
-// Whether a holding's lots are in their range, and are some.
-fn lots_good(h: Holding) -> bool
-    ensures { λ r. ⌜ r ≡ goodLots h ⌝ }
-{
-    let some = !rows::no_lots(h);
-    laws::and(h.long <= 100000, laws::and(h.short <= 100000, some))
-}
-
 // Whether two series are options of one code and date, the second with its strike in range: then it is good if the first is.
 fn is_alike(a: Series, b: Series) -> bool
     ensures { λ r. ⌜ r ≡ alike a b ⌝ }
@@ -106,7 +98,7 @@ fn good_row(i: usize, last: Holding, h: Holding) -> bool
     let a = last.series;
     let s = h.series;
     if laws::and(0 < i, is_alike(a, s)) {
-        return lots_good(h);
+        return rules::lots_good(h);
     }
     rules::good_holding(h)
 }

@@ -3,28 +3,22 @@
 use mathlib.Core.List.{List, [], _∷_}
 use Prim.Native.Nat.{ℕ}
 use lib.Dec.{eqb}
-use lib.ListN.{length}
 use Rattle.laws.specs.Truth.{pick}
 use Rattle.laws.specs.Text.{byte}
-use Rattle.lists.specs.Places.{full}
 use Rattle.digits.specs.Digits.{fixed, numerals}
 use Rattle.lines.specs.Texts.{lineText}
+use Rattle.put.specs.Output.{refusalText}
 use Rattle.levels.specs.declared.Levels.{Levels}
 use Rattle.rows.specs.declared.Book.{Book}
 use Rattle.reading.specs.declared.Answer.{Answer}
-use Rattle.reading.specs.Reading.{readText}
+use Rattle.reading.specs.Reading.{readBook}
 use Rattle.account.specs.declared.Margin.{Margin}
 use Rattle.account.specs.Margin.{marginText}
-use Rattle.statement.specs.declared.Statement.{Statement}
 
 -- `R account day clearing maintenance initial`
 unfoldable pub resultText : ℕ → ℕ → Levels → List ℕ
 resultText account day l =
     lineText (byte "R") (fixed 7 account ∷ fixed 8 day ∷ numerals (l .clearing) ∷ numerals (l .maintenance) ∷ numerals (l .initial) ∷ [])
-
--- `X number line`
-unfoldable pub refusalText : ℕ → ℕ → List ℕ
-refusalText number line = lineText (byte "X") (numerals number ∷ numerals line ∷ [])
 
 -- the line of a margin call on this book
 unfoldable pub marginLineText : Book → Margin → List ℕ
@@ -37,8 +31,4 @@ readLineText a sheet =
     pick (eqb (a .number) 0) (marginLineText (a .book) (marginText (a .book) sheet)) (refusalText (a .number) (a .line))
 
 unfoldable pub statementText : List ℕ → List ℕ → List ℕ
-statementText book sheet = readLineText (readText book) sheet
-
--- a text in room for 96 bytes, which is enough (StatementLaws)
-unfoldable pub statementOf : List ℕ → Statement
-statementOf text = record { text = full 96 0 text; length = length text }
+statementText book sheet = readLineText (readBook book) sheet

@@ -19,19 +19,20 @@ use Rattle.rules.specs.Rules.{isIdentity}
 use Rattle.rules.specs.Facts.{Sound}
 use Rattle.rules.specs.RuleLaws.{holding-is, pair-is, holdings-count, pairs-count}
 use Rattle.calls.specs.CallLaws.{no-book-sound}
-use Rattle.lines.specs.Parts.{lf, Parts, one, more, splitOn}
-use Rattle.lines.specs.PartLaws.{joinOn, join-split}
+use Rattle.lines.specs.Pieces.{lf, Pieces, one, more, splitOn}
+use Rattle.lines.specs.PieceLaws.{joinOn, join-split}
 use Rattle.printed.specs.Printed.{textOf}
-use Rattle.reading.specs.Reading.{Line, head, holding, pair, formless, lineOf, lineChecks, withLine, refusedAt, accepted, readLines, readText}
-use Rattle.reading.specs.FormLaws.{line-account}
+use Rattle.book_lines.specs.Lines.{Line, head, holding, pair, formless, bookLine, checksBy}
+use Rattle.book_lines.specs.FormLaws.{line-account}
+use Rattle.reading.specs.Reading.{lineChecks, withLine, refusedAt, readAs, readLines, readBook}
 use Rattle.reading.specs.PassLaws.{line-numbered, head-passes, holding-passes, pair-passes}
 use Rattle.reading.specs.KeepLaws.{line-keeps}
 use Rattle.trip.specs.Facts.{Ends}
 use Rattle.trip.specs.LineLaws.{head-back, holding-back, pair-back}
 use Rattle.trip.specs.TextLaws.{head-text, holding-text, pair-text}
 
-ends-read : (t : List ℕ) (b : Book) → Sound b → textOf b ≡ t → Ends t (accepted b)
-unfolding accepted
+ends-read : (t : List ℕ) (b : Book) → Sound b → textOf b ≡ t → Ends t (readAs b)
+unfolding readAs
 ends-read t b s e = inl (record { is = refl; sound = s; text = e })
 
 ends-refused : (t : List ℕ) (number line : ℕ) → 0 < number → Ends t (refusedAt number line)
@@ -47,8 +48,8 @@ line-behind x y p r e = rw e (simp append-assoc)
 
 -- A line that passes its checks is one that is printed: the text of the book with it is the longer by the line. Before the first line
 -- there is no text.
-line-text : {b : Book} → Sound b → (first : Bool) (line : List ℕ) (x : Line) → lineOf line ≡ x → allPass (lineChecks first b x) ≡ true → textOf (withLine b x) ≡ pick first [] (textOf b) ++ (line ++ (lf ∷ []))
-unfolding lineChecks allPass
+line-text : {b : Book} → Sound b → (first : Bool) (line : List ℕ) (x : Line) → bookLine line ≡ x → allPass (lineChecks first b x) ≡ true → textOf (withLine b x) ≡ pick first [] (textOf b) ++ (line ++ (lf ∷ []))
+unfolding lineChecks checksBy allPass
 line-text {b} s true line (head account identity day) q e =
     head-text b account identity day ∙ sym (head-back line account identity day q (head-passes b account identity day true e .0))
 line-text {b} s false line (head account identity day) q e =
@@ -65,17 +66,17 @@ line-text {b} s false line (pair p) q e =
 line-text {b} s first line formless q e = absurd (clash e refl)
 
 -- Line by line: the text that was read so far, and what is left, which is not nothing where nothing was read.
-lines-end : (ps : Parts) (n : ℕ) (b : Book) → Sound b → (n ≡ 0 → length (joinOn lf ps) ≡ 0 → ⊥) → Ends (pick (eqb n 0) [] (textOf b) ++ joinOn lf ps) (readLines n b ps)
+lines-end : (ps : Pieces) (n : ℕ) (b : Book) → Sound b → (n ≡ 0 → length (joinOn lf ps) ≡ 0 → ⊥) → Ends (pick (eqb n 0) [] (textOf b) ++ joinOn lf ps) (readLines n b ps)
 unfolding readLines joinOn
 lines-end (one p) n b s some =
     let t = pick (eqb n 0) [] (textOf b) ++ p in
-    picked (Ends t) (eqb (length p) 0) (accepted b) (refusedAt 1 (suc n))
+    picked (Ends t) (eqb (length p) 0) (readAs b) (refusedAt 1 (suc n))
     (λ q.
     let z = eqb-true (length p) 0 q in
     ends-read t b s (rw (ne-eqb n 0 (λ (m : n ≡ 0). some m z), no-bytes p z) (sym (append-nil (textOf b)))))
     (λ q. ends-refused t 1 (suc n) (omega arith))
 lines-end (more p ps) n b s some =
-    let x = lineOf p in
+    let x = bookLine p in
     let cs = lineChecks (eqb n 0) b x in
     let done = pick (eqb n 0) [] (textOf b) in
     let t = done ++ (p ++ (lf ∷ joinOn lf ps)) in
@@ -89,8 +90,8 @@ lines-end (more p ps) n b s some =
     (λ q. ends-refused t (firstFailing cs) (suc n) (some-fails cs (line-numbered (eqb n 0) b x) q))
 
 -- The whole text.
-pub text-ends : (t : List ℕ) → Ends t (readText t)
-unfolding readText
+pub text-ends : (t : List ℕ) → Ends t (readBook t)
+unfolding readBook
 text-ends t =
     let rest = readLines 0 noBook (splitOn lf t) in
     let j = join-split lf t in

@@ -6,11 +6,11 @@ use Prim.Native.Nat.{ℕ, _<_}
 use Rattle.rules.specs.Facts.{Sound}
 use Rattle.printed.specs.Printed.{textOf}
 use Rattle.reading.specs.declared.Answer.{Answer}
-use Rattle.reading.specs.Reading.{refusedAt, accepted}
+use Rattle.reading.specs.Reading.{refusedAt, readAs}
 
 -- The text t is read: the answer's book is sound, and t is its text.
 pub record Read (a : Answer) (t : List ℕ) : Type 0 where
-  pub is : a ≡ accepted (a .book)
+  pub is : a ≡ readAs (a .book)
   pub sound : Sound (a .book)
   pub text : textOf (a .book) ≡ t
 

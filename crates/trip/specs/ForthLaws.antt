@@ -24,10 +24,11 @@ use Rattle.rules.specs.Rules.{goodHolding, goodPair}
 use Rattle.rules.specs.Facts.{Sound}
 use Rattle.rules.specs.RuleLaws.{book-is}
 use Rattle.calls.specs.Facts.{finds}
-use Rattle.lines.specs.Parts.{lf, splitOn}
+use Rattle.lines.specs.Pieces.{lf, splitOn}
 use Rattle.printed.specs.Printed.{holdingText, pairText, textsOf, textOf}
 use Rattle.reading.specs.declared.Answer.{Answer}
-use Rattle.reading.specs.Reading.{Line, holding, pair, lineChecks, withLine, accepted, readLines}
+use Rattle.book_lines.specs.Lines.{Line, holding, pair}
+use Rattle.reading.specs.Reading.{lineChecks, withLine, readAs, readLines}
 use Rattle.reading.specs.Next.{Rows, NextRow, Covered}
 use Rattle.reading.specs.NextLaws.{next-row}
 use Rattle.reading.specs.PassLaws.{later-checks, head-passes-back, holding-passes-back, pair-passes-back}
@@ -114,7 +115,7 @@ module _ (account identity day : ℕ) where
       ps []
 
 -- The whole text: the first line, the holdings, the pairs, and then nothing.
-pub book-read : (b : Book) → Sound b → readLines 0 noBook (splitOn lf (textOf b)) ≡ accepted b
+pub book-read : (b : Book) → Sound b → readLines 0 noBook (splitOn lf (textOf b)) ≡ readAs b
 unfolding textOf withLine emptyBook readLines splitOn
 book-read b s =
     let hs = holdingsOf b in
@@ -122,8 +123,8 @@ book-read b s =
     let first = head-says (b .account) (b .identity) (b .day) (s .account-fits) (s .identity-is) (s .day-is) in
     let passes = head-passes-back noBook (b .account) (b .identity) (b .day) (s .identity-is) (s .day-is) in
     line-read 0 noBook first passes (textsOf holdingText hs ++ textsOf pairText ps)
-    ∙ holdings-read (b .account) (b .identity) (b .day) hs (holdings-rows s) (textsOf pairText ps) (accepted b)
+    ∙ holdings-read (b .account) (b .identity) (b .day) hs (holdings-rows s) (textsOf pairText ps) (readAs b)
     (λ n.
     ap (λ (t : List ℕ). readLines (suc n) (bookOf (b .account) (b .identity) (b .day) hs []) (splitOn lf t)) (sym (append-nil (textsOf pairText ps)))
-    ∙ pairs-read (b .account) (b .identity) (b .day) hs ps (pairs-covered s) [] (accepted b) (λ m. ap accepted (sym (book-is b s))) n)
+    ∙ pairs-read (b .account) (b .identity) (b .day) hs ps (pairs-covered s) [] (readAs b) (λ m. ap readAs (sym (book-is b s))) n)
     0

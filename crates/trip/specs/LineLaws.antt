@@ -18,30 +18,30 @@ use Rattle.rows.specs.declared.Holding.{Holding}
 use Rattle.rows.specs.declared.Pair.{Pair}
 use Rattle.rules.specs.Rules.{isIdentity, goodHolding, goodPair}
 use Rattle.rules.specs.RuleLaws.{holding-is, pair-is, counts-are, identity-between}
-use Rattle.lines.specs.declared.Kind.{Kind}
+use Rattle.lines.specs.declared.Asked.{Asked}
 use Rattle.lines.specs.declared.Cell.{Cell}
-use Rattle.lines.specs.Parts.{tab, lf, more, splitOn}
+use Rattle.lines.specs.Pieces.{tab, lf, more, splitOn}
 use Rattle.lines.specs.Fields.{cellsOf}
 use Rattle.lines.specs.Texts.{tabbed, lineText}
-use Rattle.lines.specs.PartLaws.{lacks, plain, plain-lacks, line-cut, fields-are}
+use Rattle.lines.specs.PieceLaws.{lacks, plain, plain-lacks, line-cut, fields-are}
 use Rattle.lines.specs.FieldLaws.{Reads, no-fields, number-reads, account-reads, date-reads, mark-reads, series-reads, series-is, Formed, none, next, number-back, account-back, date-back, mark-back, series-back}
 use Rattle.printed.specs.Printed.{headText, holdingText, pairText}
-use Rattle.reading.specs.Reading.{headForm, holdingForm, pairForm, Line, head, holding, pair, formless, headFrom, holdingFrom, pairFrom, lineIn, lineFrom, lineOf}
-use Rattle.reading.specs.FormLaws.{line-has}
+use Rattle.book_lines.specs.Lines.{headForm, holdingForm, pairForm, Line, head, holding, pair, formless, headFrom, holdingFrom, pairFrom, lineIn, lineFrom, bookLine}
+use Rattle.book_lines.specs.FormLaws.{line-has}
 
 -- a text of one line, which says x
 pub record Says (text : List ℕ) (x : Line) : Type 0 where
   pub body : List ℕ
   pub cut : (rest : List ℕ) → splitOn lf (text ++ rest) ≡ more body (splitOn lf rest)
-  pub says : lineOf body ≡ x
+  pub says : bookLine body ≡ x
 
 -- An identity is a byte above LF.
 identity-above : (identity : ℕ) → isIdentity identity ≡ true → lf < identity
 identity-above identity e = let h = identity-between identity e in omega arith
 
 -- The line of a letter and printed fields says what its fields say.
-line-says : {ks : List Kind} {fs : List (List ℕ)} {cs : List Cell} (letter : ℕ) (x : Line) → plain (letter ∷ []) ≡ true → Reads ks fs cs → lineIn (letter ∷ []) fs ≡ x → Says (lineText letter fs) x
-unfolding lineText lineOf lineFrom everyLine
+line-says : {ks : List Asked} {fs : List (List ℕ)} {cs : List Cell} (letter : ℕ) (x : Line) → plain (letter ∷ []) ≡ true → Reads ks fs cs → lineIn (letter ∷ []) fs ≡ x → Says (lineText letter fs) x
+unfolding lineText bookLine lineFrom everyLine
 line-says {ks} {fs} letter x p r e =
     record {
       body = letter ∷ tabbed fs;
@@ -99,18 +99,18 @@ module _ (line : List ℕ) where
   pair-printed fs is (next {f = k} rk (next {f = a} ra (next {f = b} rb (next {f = c} rc (next {f = d} rd (next {f = e} re (next {f = f} rf (next {f = g} rg (next {f = h} rh (next {f = r} rr (next {f = s} rs (next {f = u} ru none)))))))))))) g1 g2 =
       rw (is, number-back k rk .0, series-back a b c d rb rd g1, series-back e f g h rf rh g2, number-back r rr .0, number-back s rs .0, number-back u ru .0)
 
-  line-back : Back line (lineOf line)
+  line-back : Back line (bookLine line)
   unfolding Back
   line-back = line-has (Back line) line head-printed holding-printed pair-printed tt
 
-pub head-back : (line : List ℕ) (account identity day : ℕ) → lineOf line ≡ head account identity day → isIdentity identity ≡ true → line ++ (lf ∷ []) ≡ headText account identity day
+pub head-back : (line : List ℕ) (account identity day : ℕ) → bookLine line ≡ head account identity day → isIdentity identity ≡ true → line ++ (lf ∷ []) ≡ headText account identity day
 unfolding Back
 head-back line account identity day e = subst (Back line) e (line-back line)
 
-pub holding-back : (line : List ℕ) (h : Holding) → lineOf line ≡ holding h → goodSeries (h .series) ≡ true → line ++ (lf ∷ []) ≡ holdingText h
+pub holding-back : (line : List ℕ) (h : Holding) → bookLine line ≡ holding h → goodSeries (h .series) ≡ true → line ++ (lf ∷ []) ≡ holdingText h
 unfolding Back
 holding-back line h e = subst (Back line) e (line-back line)
 
-pub pair-back : (line : List ℕ) (p : Pair) → lineOf line ≡ pair p → goodSeries (p .first) ≡ true → goodSeries (p .second) ≡ true → line ++ (lf ∷ []) ≡ pairText p
+pub pair-back : (line : List ℕ) (p : Pair) → bookLine line ≡ pair p → goodSeries (p .first) ≡ true → goodSeries (p .second) ≡ true → line ++ (lf ∷ []) ≡ pairText p
 unfolding Back
 pair-back line p e = subst (Back line) e (line-back line)

@@ -9,7 +9,8 @@ use Rattle.rows.specs.Book.{holdingsOf, pairsOf, bookOf, withHoldings, withPair
 use Rattle.rows.specs.BookLaws.{its-holdings, its-pairs, new-holdings, same-pairs, new-pairs, same-holdings, none-paired}
 use Rattle.printed.specs.Printed.{headText, holdingText, pairText, textsOf, textOf}
 use Rattle.printed.specs.PrintedLaws.{texts-last}
-use Rattle.reading.specs.Reading.{head, holding, pair, withLine}
+use Rattle.book_lines.specs.Lines.{head, holding, pair}
+use Rattle.reading.specs.Reading.{withLine}
 
 -- A book's text by its lists.
 text-of : (b : Book) (hs : List Holding) (ps : List Pair) → holdingsOf b ≡ hs → pairsOf b ≡ ps → textOf b ≡ headText (b .account) (b .identity) (b .day) ++ (textsOf holdingText hs ++ textsOf pairText ps)

@@ -7,7 +7,7 @@ use lib.Dec.{eqb, ltb}
 use borrow.Author.Tests.{leb-true, le-leb, eq-eqb}
 use Rattle.laws.specs.TruthLaws.{both-true, within-true, picked}
 use Rattle.laws.specs.Checks.{allPass, numbered}
-use Rattle.laws.specs.CheckLaws.{accepted}
+use Rattle.laws.specs.CheckLaws.{no-failure}
 use Rattle.levels.specs.declared.Levels.{Levels}
 use Rattle.levels.specs.Levels.{flat}
 use Rattle.levels.specs.Ranges.{AtMost}
@@ -52,7 +52,7 @@ terms-fit t e f = simp (eq-eqb _ _ e, le-leb _ _ (f .multiplier-most), le-leb _ 
 pub unit-is : (kind : ℕ) (first second : Lot) (terms : Terms) (r1 r2 : ℕ) → unitNumber kind first second terms r1 r2 ≡ 0 → UnitFacts first second terms r1 r2
 unfolding unitNumber unitChecks allPass numbered
 unit-is kind first second terms r1 r2 e =
-    let h1 = both-true _ _ (accepted (unitChecks kind first second terms r1 r2) refl e) in
+    let h1 = both-true _ _ (no-failure (unitChecks kind first second terms r1 r2) refl e) in
     let h2 = both-true _ _ (h1 .1) in
     let h3 = both-true _ _ (h2 .1) in
     let h4 = both-true _ _ (h3 .1) in

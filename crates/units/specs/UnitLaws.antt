@@ -125,7 +125,7 @@ module _ (first second : Lot) (terms : Terms) (r1 r2 : ℕ) (charged : Bool) (u 
       flat-most _ (max-le (omega arith) (dollar-most _ 4000000000 (omega arith)))
 
   -- In every kind but 5 a unit comes to at most 8,430,000,000 dollars.
-  pub each-most : (P : Levels → Type 0) (kind : ℕ) → ((l : Levels) → AtMost 8430000000 l → P l) → P (futureOptionMargin r1 (first .margin) r2 (second .premium)) → P (formula kind first second terms r1 r2 charged)
+  pub each-most : (P : Levels → Type 0) (kind : ℕ) → ((l : Levels) → AtMost 8430000000 l → P l) → (kind ≡ 5 → P (futureOptionMargin r1 (first .margin) r2 (second .premium))) → P (formula kind first second terms r1 r2 charged)
   unfolding formula debitMargin conversionMargin calendarMargin productsMargin
   each-most P kind small five =
       let m = u .first-is .margin-most in
@@ -136,7 +136,7 @@ module _ (first second : Lot) (terms : Terms) (r1 r2 : ℕ) (charged : Bool) (u 
       (λ _. small _ (at-most-more (lit≤ tt) credit-most))
       (λ _. small _ (at-most-more (lit≤ tt) time-most))
       (λ _. small _ (mixed-most first second _ (u .first-is) (u .second-is) (charged-most charged (terms .c) (u .terms-is .c-most))))
-      (λ _. five)
+      five
       (λ _. small _ (at-most-more (lit≤ tt) n))
       (λ _. larger)
       (λ _. larger)
@@ -149,7 +149,7 @@ module _ (first second : Lot) (terms : Terms) (r1 r2 : ℕ) (charged : Bool) (u 
   pub unit-most : (kind : ℕ) → AtMost 643000000000 (formula kind first second terms r1 r2 charged)
   unfolding futureOptionMargin
   unit-most kind =
-      each-most (AtMost 643000000000) kind (λ l h. at-most-more (lit≤ tt) h) (each-at-most _ five-at (u .first-is .margin-most))
+      each-most (AtMost 643000000000) kind (λ l h. at-most-more (lit≤ tt) h) (λ _. each-at-most _ five-at (u .first-is .margin-most))
 
   -- All units of a pair, of which no leg has more than 100,000 lots, come to at most 843,000,000,000,000.
   module _ (units : ℕ) (some : units ≤ 100000) (one : r1 * units ≤ 100000) (two : r2 * units ≤ 100000) where
@@ -165,7 +165,7 @@ module _ (first second : Lot) (terms : Terms) (r1 r2 : ℕ) (charged : Bool) (u 
     unfolding futureOptionMargin
     pair-most kind =
         each-most (λ (l : Levels). AtMost 843000000000000 (perLevel (λ (m : ℕ). m * units) l)) kind times-units
-        (each-at-most (λ (m : ℕ). (r1 * m + r2 * second .premium) * units) five-units (u .first-is .margin-most))
+        (λ _. each-at-most (λ (m : ℕ). (r1 * m + r2 * second .premium) * units) five-units (u .first-is .margin-most))
 
 -- A holding of at most 100,000 lots a side comes to at most 486,000,000,000,000: every free future is charged, of options the
 -- short ones.
@@ -177,8 +177,8 @@ pub options-most : (short : ℕ) {l : Levels} → AtMost lotLimit l → short �
 options-most short h b =
     at-most-more (lit≤ tt) (each-at-most (λ (m : ℕ). m * short) (λ m k. mul-le-mul k b) h)
 
--- An account of 128 holdings and 128 pairs.
-pub accountLimit : ℕ
+-- An account of 128 holdings and 128 pairs (`margin-most` of same_answer: no margin call answers more).
+unfoldable pub accountLimit : ℕ
 accountLimit = 128 * 486000000000000 + 128 * 843000000000000
 
 pub account-fits : accountLimit < 2 ^ 64

@@ -294,11 +294,11 @@ fn answers(engine: &dyn Engine, inputs: &Inputs) -> (Vec<String>, usize) {
         (&inputs.small_book, &inputs.sheet_100),
     ];
     for (book, sheet) in pairs {
-        let length = engine.margin(book, sheet, 1, &mut out);
+        let length = engine.margin(book, sheet, 1, &mut out).length;
         list.push(String::from_utf8_lossy(&out[..length]).trim_end().replace('\t', " "));
     }
     let mut numbers = vec![0; CALLS];
-    let length = engine.run(&inputs.script_book, &inputs.script, &mut numbers, &mut out);
+    let length = engine.run(&inputs.script_book, &inputs.script, &mut numbers, &mut out).length;
     list.push(String::from_utf8_lossy(&out[..length]).replace('\t', " "));
     (list, numbers.iter().filter(|number| **number == 0).count())
 }

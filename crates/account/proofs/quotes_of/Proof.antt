@@ -3,7 +3,7 @@ use Prim.Native.Nat.{_-_, _≤_}
 use native.Mathlib.Omega.{arith}
 use borrow.Author.Needs.{needs}
 use Rattle.sheets.specs.Rows.{noStock}
-use Rattle.quotes.specs.View.{sheetView}
+use Rattle.sheets.specs.View.{sheetView}
 use Rattle.account.specs.Walk.{QuotesAre}
 use Rattle.account.specs.QuotedLaws.{quotes-start, quotes-on, row-quoted}
 use Rattle.account.proofs.Typed.{stocks-long}
@@ -26,10 +26,10 @@ array-copy-out-h : tie.Need-array-copy-out-h Inv-loop μ-loop
 array-copy-out-h c = omega (arith, c .before .before .before .before .before .pre .0, c .loop-test .taken)
 
 mul-row : tie.Need-mul-row Inv-loop μ-loop
-mul-row c = omega (arith, c .inside .ensures)
+mul-row c = omega (arith, c .nearest-place .ensures)
 
 element-copy-out-row : tie.Need-element-copy-out-row Inv-loop μ-loop
-element-copy-out-row c = omega (arith, c .inside .ensures)
+element-copy-out-row c = omega (arith, c .nearest-place .ensures)
 
 mul-price : tie.Need-mul-price Inv-loop μ-loop
 mul-price c = omega (arith, c .before .before .before .before .before .before .before .before .before .before .before .before .before .before .before .before .pre .0, c .before .before .before .before .before .before .before .before .before .before .before .loop-test .taken)
@@ -55,7 +55,7 @@ loop-again c =
     let long = stocks-long (c .before .before .before .before .before .before .before .before .before .before .before .before .before .before .before .before .before .before .args .t3) (c .before .before .before .before .before .before .before .before .before .before .before .before .before .before .before .before .before .before .good .1 .1 .0) in (
       omega (arith, c .before .before .before .before .before .before .before .before .before .before .before .before .before .before .before .before .before .before .pre .0, c .before .before .before .before .before .before .before .before .before .before .before .before .before .loop-test .taken),
       quotes-on (c .before .before .before .before .before .before .before .before .before .before .before .before .before .before .loop .inv .1) (omega (arith, c .before .before .before .before .before .before .before .before .before .before .before .before .before .before .before .before .before .before .pre .0, c .before .before .before .before .before .before .before .before .before .before .before .before .before .loop-test .taken))
-          (row-quoted (c .before .before .before .before .before .before .before .before .before .before .before .before .before .before .before .before .before .before .args .t3) _ long (c .before .before .before .before .before .before .before .before .before .product-of .ensures) (c .before .before .before .before .before .before .before .clearing-of .ensures) (c .before .before .before .before .before .before .index-of .ensures) (c .before .before .before .before .before .stock-place .ensures) (c .before .before .before .before .inside .ensures) (c .before .before .stock-at .ensures) (c .before .before .before .before .before .before .before .before .before .before .before .before .before .before .before .before .before .before .pre .1 .prices-are (c .before .before .before .before .before .before .before .before .before .before .before .before .before .before .loop .i) (c .before .before .before .before .before .before .before .before .before .before .before .before .before .loop-test .taken)) (c .quote-for .ensures)),
+          (row-quoted (c .before .before .before .before .before .before .before .before .before .before .before .before .before .before .before .before .before .before .args .t3) _ long (c .before .before .before .before .before .before .before .before .before .product-of .ensures) (c .before .before .before .before .before .before .before .clearing-of .ensures) (c .before .before .before .before .before .before .index-of .ensures) (c .before .before .before .before .before .stock-place .ensures) (c .before .before .before .before .nearest-place .ensures) (c .before .before .stock-at .ensures) (c .before .before .before .before .before .before .before .before .before .before .before .before .before .before .before .before .before .before .pre .1 .prices-are (c .before .before .before .before .before .before .before .before .before .before .before .before .before .before .loop .i) (c .before .before .before .before .before .before .before .before .before .before .before .before .before .loop-test .taken)) (c .quote-for .ensures)),
     )
 
 returns : tie.Need-returns Inv-loop μ-loop

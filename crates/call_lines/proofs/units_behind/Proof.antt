@@ -4,7 +4,7 @@ use Rattle.call_lines.proofs.units_behind.Statement.{statement}
 use Rattle.call_lines.proofs.units_behind.Tie as tie
 
 returns : tie.Need-returns
-returns c = rw (c .and6 .ensures, c .before .before .and5 .ensures, c .before .before .before .and4 .ensures, c .before .before .before .before .and3 .ensures, c .before .before .before .before .before .and2 .ensures, c .before .before .before .before .before .before .and .ensures) (units-read _ _ (c .before .before .before .before .before .before .before .before .before .before .before .before .before .before .before .before .before .before .number-behind .ensures) (c .before .before .before .before .before .before .before .before .before .before .before .before .before .before .before .before .before .series-behind .ensures) (c .before .before .before .before .before .before .before .before .before .before .before .before .before .before .before .before .series-behind2 .ensures) (c .before .before .before .before .before .before .before .before .before .before .before .before .before .before .before .number-behind2 .ensures) (c .before .before .before .before .before .before .before .before .before .before .before .before .before .before .number-behind3 .ensures) (c .before .before .before .before .before .before .before .before .before .before .before .before .before .number-behind4 .ensures) (c .before .ends-at .ensures))
+returns c = rw (c .and6 .ensures, c .before .before .and5 .ensures, c .before .before .before .and4 .ensures, c .before .before .before .before .and3 .ensures, c .before .before .before .before .before .and2 .ensures, c .before .before .before .before .before .before .and .ensures) (units-read _ _ (c .before .before .before .before .before .before .before .before .before .before .before .before .before .before .before .before .before .before .field-behind .ensures) (c .before .before .before .before .before .before .before .before .before .before .before .before .before .before .before .before .before .series-behind .ensures) (c .before .before .before .before .before .before .before .before .before .before .before .before .before .before .before .before .series-behind2 .ensures) (c .before .before .before .before .before .before .before .before .before .before .before .before .before .before .before .field-behind2 .ensures) (c .before .before .before .before .before .before .before .before .before .before .before .before .before .before .field-behind3 .ensures) (c .before .before .before .before .before .before .before .before .before .before .before .before .before .field-behind4 .ensures) (c .before .ends-at .ensures))
 
 pub units-behind-spec : {M : Type 1} → statement M
 units-behind-spec =

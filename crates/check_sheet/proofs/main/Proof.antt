@@ -1,5 +1,5 @@
 use borrow.Author.Needs.{needs}
-use Rattle.statement.specs.StatementLaws.{line-inside, line-counts}
+use Rattle.put.specs.LineLaws.{line-inside, line-counts}
 use Rattle.reports.specs.ReportLaws.{sheet-report-fits}
 use Rattle.check_sheet.proofs.main.Statement.{statement}
 use Rattle.check_sheet.proofs.main.Tie as tie

@@ -4,27 +4,25 @@ use native.Mathlib.Omega.{arith}
 use borrow.Author.Needs.{needs}
 use lib.ListN.{length, length-replicate}
 use Rattle.lines.specs.LoopLaws.{stops-low}
-use Rattle.checking.specs.Lines.{headForm, futureForm, optionForm, stockForm, priceForm}
-use Rattle.checking.specs.Facts.{kindTable}
 use Rattle.checking.specs.StepLaws.{AtLine, lines-start, line-small, lines-end, line-over, letter-unended, letter-high, row-begins, line-less, number-refused, head-next, future-next, option-next, stock-room, stock-next, price-room, price-next, letter-Q, InRow, kind-fits, field-refused, cell-fits, field-less, in-row-on, fields-refused, row-said}
-use Rattle.checking.specs.QuoteLaws.{Headed, no-head, head-inside, head-stays, figures-row}
+use Rattle.checking.specs.QuoteLaws.{Headed, no-head, new-head, head-stays, figures-letter, figures-row}
 use Rattle.checking.proofs.read_lines.Statement.{statement}
 use Rattle.checking.proofs.read_lines.Tie as tie
 
 abbrev Inv-fields : tie.InvT-fields
-Inv-fields t kinds sheet last before cells₀ line at stop₀ letter form k₀ cells stop k = InRow t sheet last before line at stop₀ letter cells k stop
+Inv-fields t table sheet last before cells₀ line at stop₀ letter form k₀ cells stop k = InRow t sheet last before line at stop₀ letter cells k stop
 
 abbrev μ-fields : tie.MeasureT-fields
-μ-fields t kinds sheet last before cells₀ line at stop₀ letter form k₀ cells stop k = length t - stop
+μ-fields t table sheet last before cells₀ line at stop₀ letter form k₀ cells stop k = length t - stop
 
 abbrev Inv-lines : tie.InvT-lines
-Inv-lines t kinds sheet₀ last₀ before₀ cells₀ line₀ at₀ head₀ sheet last before cells line at head = (AtLine t sheet last before line at) × ((length cells ≡ 12) × Headed t (head .right) (head .at) last before)
+Inv-lines t table sheet₀ last₀ before₀ cells₀ line₀ at₀ head₀ sheet last before cells line at head = (AtLine t sheet last before line at) × ((length cells ≡ 12) × Headed t head last before)
 
 abbrev μ-lines : tie.MeasureT-lines
-μ-lines t kinds sheet₀ last₀ before₀ cells₀ line₀ at₀ head₀ sheet last before cells line at head = length t - at
+μ-lines t table sheet₀ last₀ before₀ cells₀ line₀ at₀ head₀ sheet last before cells line at head = length t - at
 
 lines-holds : tie.Need-lines-holds Inv-fields μ-fields Inv-lines μ-lines
-lines-holds c = (lines-start _ _ (c .before .empty-sheet .ensures), (length-replicate 12 (c .before .before .no-cell .result), no-head _ _ _ _ (c .no-head .ensures) (length-replicate 12 (c .before .before .no-cell .result))))
+lines-holds c = let long = length-replicate 12 (c .before .before .no-cell .result) in (lines-start _ _ (c .empty-sheet .ensures), (long, no-head _ _ _ _ long))
 
 add-line : tie.Need-add-line Inv-fields μ-fields Inv-lines μ-lines
 add-line c = let small = line-small (c .before .lines .inv .0) in omega (arith, small)
@@ -37,28 +35,25 @@ element-copy-out-next-figures-2 :
     tie.Need-element-copy-out-next-figures-2 Inv-fields μ-fields Inv-lines μ-lines
 element-copy-out-next-figures-2 c = search needs
 
-next-figures-requires : tie.Need-next-figures-requires Inv-fields μ-fields Inv-lines μ-lines
-next-figures-requires c κs = (let low = c .before .before .lines .inv .0 .low in omega arith, head-inside (c .before .before .lines .inv .1 .1))
-
 mul-r : tie.Need-mul-r Inv-fields μ-fields Inv-lines μ-lines
-mul-r c = let b = c .before .before .before .before .before in let room = price-room (figures-row (b .before .before .before .lines .inv .1 .1) (b .before .before .before .lines .inv .0) (b .before .before .if1 .left) (b .before .if2 .left) (b .next-figures .ensures (c .before .before .before .before .if3 .taken)) (c .before .before .before .number-cell .ensures) (c .before .before .number-cell2 .ensures) (c .before .number-cell3 .ensures)) refl in omega (arith, room)
+mul-r c = let b = c .before .before .before .before .before in let room = price-room (figures-row (b .before .before .before .lines .inv .1 .1) _ (b .next-figures .ensures) (c .before .before .before .before .if3 .taken) (b .before .before .before .lines .inv .0) (b .before .before .if1 .left) (b .before .if2 .left) (c .before .before .before .number-cell .ensures) (c .before .before .number-cell2 .ensures) (c .before .number-cell3 .ensures)) refl in omega (arith, room)
 
 element-set-from-r : tie.Need-element-set-from-r Inv-fields μ-fields Inv-lines μ-lines
-element-set-from-r c = let b = c .before .before .before .before .before in let room = price-room (figures-row (b .before .before .before .lines .inv .1 .1) (b .before .before .before .lines .inv .0) (b .before .before .if1 .left) (b .before .if2 .left) (b .next-figures .ensures (c .before .before .before .before .if3 .taken)) (c .before .before .before .number-cell .ensures) (c .before .before .number-cell2 .ensures) (c .before .number-cell3 .ensures)) refl in room
+element-set-from-r c = let b = c .before .before .before .before .before in let room = price-room (figures-row (b .before .before .before .lines .inv .1 .1) _ (b .next-figures .ensures) (c .before .before .before .before .if3 .taken) (b .before .before .before .lines .inv .0) (b .before .before .if1 .left) (b .before .if2 .left) (c .before .before .before .number-cell .ensures) (c .before .before .number-cell2 .ensures) (c .before .number-cell3 .ensures)) refl in room
 
 add-sheet : tie.Need-add-sheet Inv-fields μ-fields Inv-lines μ-lines
-add-sheet c = let b = c .before .before .before .before .before in let room = price-room (figures-row (b .before .before .before .lines .inv .1 .1) (b .before .before .before .lines .inv .0) (b .before .before .if1 .left) (b .before .if2 .left) (b .next-figures .ensures (c .before .before .before .before .if3 .taken)) (c .before .before .before .number-cell .ensures) (c .before .before .number-cell2 .ensures) (c .before .number-cell3 .ensures)) refl in omega (arith, room)
+add-sheet c = let b = c .before .before .before .before .before in let room = price-room (figures-row (b .before .before .before .lines .inv .1 .1) _ (b .next-figures .ensures) (c .before .before .before .before .if3 .taken) (b .before .before .before .lines .inv .0) (b .before .before .if1 .left) (b .before .if2 .left) (c .before .before .before .number-cell .ensures) (c .before .before .number-cell2 .ensures) (c .before .number-cell3 .ensures)) refl in omega (arith, room)
 
 add-at : tie.Need-add-at Inv-fields μ-fields Inv-lines μ-lines
-add-at c = let b = c .before .before .before .before .before .before in let low = (figures-row (b .before .before .before .lines .inv .1 .1) (b .before .before .before .lines .inv .0) (b .before .before .if1 .left) (b .before .if2 .left) (b .next-figures .ensures (c .before .before .before .before .before .if3 .taken)) (c .before .before .before .before .number-cell .ensures) (c .before .before .before .number-cell2 .ensures) (c .before .before .number-cell3 .ensures)) .at-row .low in omega (arith, low)
+add-at c = let b = c .before .before .before .before .before .before in let low = (figures-row (b .before .before .before .lines .inv .1 .1) _ (b .next-figures .ensures) (c .before .before .before .before .before .if3 .taken) (b .before .before .before .lines .inv .0) (b .before .before .if1 .left) (b .before .if2 .left) (c .before .before .before .before .number-cell .ensures) (c .before .before .before .number-cell2 .ensures) (c .before .before .number-cell3 .ensures)) .at-row .low in omega (arith, low)
 
 lines-less : tie.Need-lines-less Inv-fields μ-fields Inv-lines μ-lines
-lines-less c = let b = c .before .before .before .before .before .before in line-less ((figures-row (b .before .before .before .lines .inv .1 .1) (b .before .before .before .lines .inv .0) (b .before .before .if1 .left) (b .before .if2 .left) (b .next-figures .ensures (c .before .before .before .before .before .if3 .taken)) (c .before .before .before .before .number-cell .ensures) (c .before .before .before .number-cell2 .ensures) (c .before .before .number-cell3 .ensures)) .at-row)
+lines-less c = let b = c .before .before .before .before .before .before in line-less ((figures-row (b .before .before .before .lines .inv .1 .1) _ (b .next-figures .ensures) (c .before .before .before .before .before .if3 .taken) (b .before .before .before .lines .inv .0) (b .before .before .if1 .left) (b .before .if2 .left) (c .before .before .before .before .number-cell .ensures) (c .before .before .before .number-cell2 .ensures) (c .before .before .number-cell3 .ensures)) .at-row)
 
 lines-again : tie.Need-lines-again Inv-fields μ-fields Inv-lines μ-lines
 lines-again c = let b = c .before .before .before .before .before .before in (
-  price-next (figures-row (b .before .before .before .lines .inv .1 .1) (b .before .before .before .lines .inv .0) (b .before .before .if1 .left) (b .before .if2 .left) (b .next-figures .ensures (c .before .before .before .before .before .if3 .taken)) (c .before .before .before .before .number-cell .ensures) (c .before .before .before .number-cell2 .ensures) (c .before .before .number-cell3 .ensures)) refl
-      (b .before .before .before .lines .inv .1 .1 .told (b .next-figures .ensures (c .before .before .before .before .before .if3 .taken) .0) .letter-is) (c .before .price-row .ensures),
+  price-next (figures-row (b .before .before .before .lines .inv .1 .1) _ (b .next-figures .ensures) (c .before .before .before .before .before .if3 .taken) (b .before .before .before .lines .inv .0) (b .before .before .if1 .left) (b .before .if2 .left) (c .before .before .before .before .number-cell .ensures) (c .before .before .before .number-cell2 .ensures) (c .before .before .number-cell3 .ensures)) refl
+      (figures-letter (b .before .before .before .lines .inv .1 .1) _ (b .next-figures .ensures) (c .before .before .before .before .before .if3 .taken)) (c .before .price-row .ensures),
   (b .before .before .before .lines .inv .1 .0, head-stays (b .before .before .before .lines .inv .1 .1) _ _ _),
 )
 
@@ -77,37 +72,29 @@ fields-holds c = row-begins (c .before .before .before .before .before .before .
 shared-slice-read-if5 : tie.Need-shared-slice-read-if5 Inv-fields μ-fields Inv-lines μ-lines
 shared-slice-read-if5 c = c .before .fields .inv .in-line .inside
 
-add-kind : tie.Need-add-kind Inv-fields μ-fields Inv-lines μ-lines
-add-kind c = let h = kind-fits (c .before .before .fields .inv) (c .before .before .before .form-of .ensures) in omega (arith, h)
+add-asked : tie.Need-add-asked Inv-fields μ-fields Inv-lines μ-lines
+add-asked c = let h = kind-fits (c .before .before .fields .inv) (c .before .before .before .form-of .ensures) in omega (arith, h)
 
-array-copy-out-kind : tie.Need-array-copy-out-kind Inv-fields μ-fields Inv-lines μ-lines
-array-copy-out-kind c = kind-fits (c .before .before .fields .inv) (c .before .before .before .form-of .ensures)
+array-copy-out-asked : tie.Need-array-copy-out-asked Inv-fields μ-fields Inv-lines μ-lines
+array-copy-out-asked c = kind-fits (c .before .before .fields .inv) (c .before .before .before .form-of .ensures)
 
 add-field-at : tie.Need-add-field-at Inv-fields μ-fields Inv-lines μ-lines
 add-field-at c = let h = c .before .before .before .fields .inv .in-line .inside in omega (arith, h)
 
 mul-cells : tie.Need-mul-cells Inv-fields μ-fields Inv-lines μ-lines
-unfolding kindTable headForm futureForm optionForm stockForm priceForm
-mul-cells c = let room = cell-fits (c .before .before .before .before .before .before .before .fields .inv) (c .before .before .before .before .before .before .before .before .form-of .ensures) (c .before .before .before .before .before .if5 .taken) (c .before .before .before .field-at .ensures) (c .if6 .left) in omega (arith, room)
+mul-cells c = let room = cell-fits (c .before .before .before .before .before .before .before .fields .inv) (c .before .before .before .before .before .before .before .before .form-of .ensures) (c .before .before .before .before .before .before .before .before .before .before .before .before .before .before .before .before .before .before .before .asked-table .ensures) (c .before .before .before .before .before .if5 .taken) (c .before .before .before .field-at .ensures) (c .if6 .left) in omega (arith, room)
 
 array-set-from-cells : tie.Need-array-set-from-cells Inv-fields μ-fields Inv-lines μ-lines
-unfolding kindTable headForm futureForm optionForm stockForm priceForm
-array-set-from-cells c = cell-fits (c .before .before .before .before .before .before .before .fields .inv) (c .before .before .before .before .before .before .before .before .form-of .ensures) (c .before .before .before .before .before .if5 .taken) (c .before .before .before .field-at .ensures) (c .if6 .left)
+array-set-from-cells c = cell-fits (c .before .before .before .before .before .before .before .fields .inv) (c .before .before .before .before .before .before .before .before .form-of .ensures) (c .before .before .before .before .before .before .before .before .before .before .before .before .before .before .before .before .before .before .before .asked-table .ensures) (c .before .before .before .before .before .if5 .taken) (c .before .before .before .field-at .ensures) (c .if6 .left)
 
 add-k : tie.Need-add-k Inv-fields μ-fields Inv-lines μ-lines
-unfolding kindTable headForm futureForm optionForm stockForm priceForm
-add-k c = let room = cell-fits (c .before .before .before .before .before .before .before .fields .inv) (c .before .before .before .before .before .before .before .before .form-of .ensures) (c .before .before .before .before .before .if5 .taken) (c .before .before .before .field-at .ensures) (c .if6 .left) in omega (arith, room)
+add-k c = let room = cell-fits (c .before .before .before .before .before .before .before .fields .inv) (c .before .before .before .before .before .before .before .before .form-of .ensures) (c .before .before .before .before .before .before .before .before .before .before .before .before .before .before .before .before .before .before .before .asked-table .ensures) (c .before .before .before .before .before .if5 .taken) (c .before .before .before .field-at .ensures) (c .if6 .left) in omega (arith, room)
 
 fields-less : tie.Need-fields-less Inv-fields μ-fields Inv-lines μ-lines
-unfolding kindTable headForm futureForm optionForm stockForm priceForm
-fields-less c = field-less (c .before .before .before .before .before .before .before .fields .inv) (c .before .before .before .before .before .before .before .before .form-of .ensures) (c .before .before .before .before .before .if5 .taken) (c .before .before .before .field-at .ensures) (c .if6 .left)
+fields-less c = field-less (c .before .before .before .before .before .before .before .fields .inv) (c .before .before .before .before .before .before .before .before .form-of .ensures) (c .before .before .before .before .before .before .before .before .before .before .before .before .before .before .before .before .before .before .before .asked-table .ensures) (c .before .before .before .before .before .if5 .taken) (c .before .before .before .field-at .ensures) (c .if6 .left)
 
 fields-again : tie.Need-fields-again Inv-fields μ-fields Inv-lines μ-lines
-unfolding kindTable headForm futureForm optionForm stockForm priceForm
-fields-again c = in-row-on (c .before .before .before .before .before .before .before .fields .inv) (c .before .before .before .before .before .before .before .before .form-of .ensures) (c .before .before .before .before .before .if5 .taken) (c .before .before .before .field-at .ensures) (c .if6 .left)
-
-head-at-requires : tie.Need-head-at-requires Inv-fields μ-fields Inv-lines μ-lines
-head-at-requires c κs = let b = c .before in let low = b .before .before .before .before .before .fields .inv .in-text .low in let long = c .before .before .before .before .before .before .before .before .before .before .before .before .before .before .before .before .before .before .before .before .before .pre in omega arith
+fields-again c = in-row-on (c .before .before .before .before .before .before .before .fields .inv) (c .before .before .before .before .before .before .before .before .form-of .ensures) (c .before .before .before .before .before .before .before .before .before .before .before .before .before .before .before .before .before .before .before .asked-table .ensures) (c .before .before .before .before .before .if5 .taken) (c .before .before .before .field-at .ensures) (c .if6 .left)
 
 add-at-2 : tie.Need-add-at-2 Inv-fields μ-fields Inv-lines μ-lines
 add-at-2 c = let h = c .before .before .before .before .before .before .before .fields .inv .in-line .inside in let long = c .before .before .before .before .before .before .before .before .before .before .before .before .before .before .before .before .before .before .before .before .before .before .pre in omega (arith, h, long)
@@ -116,19 +103,19 @@ lines-less-2 : tie.Need-lines-less-2 Inv-fields μ-fields Inv-lines μ-lines
 lines-less-2 c = let b = c .before .before .before in line-less ((row-said (b .before .before .before .before .before .fields .inv) (b .before .before .before .if5 .left) (b .before .before .fields-of .ensures) (b .before .if7 .left) (b .line-number .ensures)) .at-row)
 
 lines-again-2 : tie.Need-lines-again-2 Inv-fields μ-fields Inv-lines μ-lines
-lines-again-2 c = let b = c .before .before .before in (head-next (row-said (b .before .before .before .before .before .fields .inv) (b .before .before .before .if5 .left) (b .before .before .fields-of .ensures) (b .before .if7 .left) (b .line-number .ensures)) (c .before .before .if8 .left) (c .if9 .taken), (b .before .before .before .before .before .fields .inv .in-line .fields .fields .long, record { long = b .before .before .before .before .before .fields .inv .in-line .fields .fields .long; told = c .before .head-at .ensures }))
+lines-again-2 c = let b = c .before .before .before in (head-next (row-said (b .before .before .before .before .before .fields .inv) (b .before .before .before .if5 .left) (b .before .before .fields-of .ensures) (b .before .if7 .left) (b .line-number .ensures)) (c .before .before .if8 .left) (c .if9 .taken), (b .before .before .before .before .before .fields .inv .in-line .fields .fields .long, new-head _ (c .before .head-at .ensures) (b .before .before .before .before .before .fields .inv .in-line .fields .fields .long)))
 
 lines-less-3 : tie.Need-lines-less-3 Inv-fields μ-fields Inv-lines μ-lines
 lines-less-3 c = let b = c .before .before .before .before .before .before .before in line-less ((row-said (b .before .before .before .before .before .fields .inv) (b .before .before .before .if5 .left) (b .before .before .fields-of .ensures) (b .before .if7 .left) (b .line-number .ensures)) .at-row)
 
 lines-again-3 : tie.Need-lines-again-3 Inv-fields μ-fields Inv-lines μ-lines
-lines-again-3 c = let b = c .before .before .before .before .before .before .before in (future-next (row-said (b .before .before .before .before .before .fields .inv) (b .before .before .before .if5 .left) (b .before .before .fields-of .ensures) (b .before .if7 .left) (b .line-number .ensures)) (c .before .before .before .before .before .before .if8 .left) (c .before .before .before .if10 .taken) (c .before .future-row .ensures) (c .with-future .ensures), (b .before .before .before .before .before .fields .inv .in-line .fields .fields .long, record { long = b .before .before .before .before .before .fields .inv .in-line .fields .fields .long; told = c .before .before .before .before .before .head-at .ensures }))
+lines-again-3 c = let b = c .before .before .before .before .before .before .before in (future-next (row-said (b .before .before .before .before .before .fields .inv) (b .before .before .before .if5 .left) (b .before .before .fields-of .ensures) (b .before .if7 .left) (b .line-number .ensures)) (c .before .before .before .before .before .before .if8 .left) (c .before .before .before .if10 .taken) (c .before .future-row .ensures) (c .with-future .ensures), (b .before .before .before .before .before .fields .inv .in-line .fields .fields .long, new-head _ (c .before .before .before .before .before .head-at .ensures) (b .before .before .before .before .before .fields .inv .in-line .fields .fields .long)))
 
 lines-less-4 : tie.Need-lines-less-4 Inv-fields μ-fields Inv-lines μ-lines
 lines-less-4 c = let b = c .before .before .before .before .before .before .before .before in line-less ((row-said (b .before .before .before .before .before .fields .inv) (b .before .before .before .if5 .left) (b .before .before .fields-of .ensures) (b .before .if7 .left) (b .line-number .ensures)) .at-row)
 
 lines-again-4 : tie.Need-lines-again-4 Inv-fields μ-fields Inv-lines μ-lines
-lines-again-4 c = let b = c .before .before .before .before .before .before .before .before in (option-next (row-said (b .before .before .before .before .before .fields .inv) (b .before .before .before .if5 .left) (b .before .before .fields-of .ensures) (b .before .if7 .left) (b .line-number .ensures)) (c .before .before .before .before .before .before .before .if8 .left) (c .before .before .before .if11 .taken) (c .before .option-row .ensures) (c .with-option .ensures), (b .before .before .before .before .before .fields .inv .in-line .fields .fields .long, record { long = b .before .before .before .before .before .fields .inv .in-line .fields .fields .long; told = c .before .before .before .before .before .before .head-at .ensures }))
+lines-again-4 c = let b = c .before .before .before .before .before .before .before .before in (option-next (row-said (b .before .before .before .before .before .fields .inv) (b .before .before .before .if5 .left) (b .before .before .fields-of .ensures) (b .before .if7 .left) (b .line-number .ensures)) (c .before .before .before .before .before .before .before .if8 .left) (c .before .before .before .if11 .taken) (c .before .option-row .ensures) (c .with-option .ensures), (b .before .before .before .before .before .fields .inv .in-line .fields .fields .long, new-head _ (c .before .before .before .before .before .before .head-at .ensures) (b .before .before .before .before .before .fields .inv .in-line .fields .fields .long)))
 
 mul-stock : tie.Need-mul-stock Inv-fields μ-fields Inv-lines μ-lines
 mul-stock c = let room = stock-room (row-said (c .before .before .before .before .before .before .before .before .before .before .before .before .before .before .before .fields .inv) (c .before .before .before .before .before .before .before .before .before .before .before .before .before .if5 .left) (c .before .before .before .before .before .before .before .before .before .before .before .before .fields-of .ensures) (c .before .before .before .before .before .before .before .before .before .before .before .if7 .left) (c .before .before .before .before .before .before .before .before .before .before .line-number .ensures)) (c .before .before .before .before .before .before .before .before .before .if8 .left) (c .before .before .before .before .if12 .taken) (c .before .before .before .stock-row .ensures) (c .stock-place .ensures) in omega (arith, room)
@@ -140,7 +127,7 @@ lines-less-5 : tie.Need-lines-less-5 Inv-fields μ-fields Inv-lines μ-lines
 lines-less-5 c = line-less ((row-said (c .before .before .before .before .before .before .before .before .before .before .before .before .before .before .before .fields .inv) (c .before .before .before .before .before .before .before .before .before .before .before .before .before .if5 .left) (c .before .before .before .before .before .before .before .before .before .before .before .before .fields-of .ensures) (c .before .before .before .before .before .before .before .before .before .before .before .if7 .left) (c .before .before .before .before .before .before .before .before .before .before .line-number .ensures)) .at-row)
 
 lines-again-5 : tie.Need-lines-again-5 Inv-fields μ-fields Inv-lines μ-lines
-lines-again-5 c = (stock-next (row-said (c .before .before .before .before .before .before .before .before .before .before .before .before .before .before .before .fields .inv) (c .before .before .before .before .before .before .before .before .before .before .before .before .before .if5 .left) (c .before .before .before .before .before .before .before .before .before .before .before .before .fields-of .ensures) (c .before .before .before .before .before .before .before .before .before .before .before .if7 .left) (c .before .before .before .before .before .before .before .before .before .before .line-number .ensures)) (c .before .before .before .before .before .before .before .before .before .if8 .left) (c .before .before .before .before .if12 .taken) (c .before .before .before .stock-row .ensures) (c .stock-place .ensures), ((c .before .before .before .before .before .before .before .before .before .before .before .before .before .before .before .fields .inv) .in-line .fields .fields .long, record { long = (c .before .before .before .before .before .before .before .before .before .before .before .before .before .before .before .fields .inv) .in-line .fields .fields .long; told = (c .before .before .before .before .before .before .before .before .head-at .ensures) }))
+lines-again-5 c = (stock-next (row-said (c .before .before .before .before .before .before .before .before .before .before .before .before .before .before .before .fields .inv) (c .before .before .before .before .before .before .before .before .before .before .before .before .before .if5 .left) (c .before .before .before .before .before .before .before .before .before .before .before .before .fields-of .ensures) (c .before .before .before .before .before .before .before .before .before .before .before .if7 .left) (c .before .before .before .before .before .before .before .before .before .before .line-number .ensures)) (c .before .before .before .before .before .before .before .before .before .if8 .left) (c .before .before .before .before .if12 .taken) (c .before .before .before .stock-row .ensures) (c .stock-place .ensures), ((c .before .before .before .before .before .before .before .before .before .before .before .before .before .before .before .fields .inv) .in-line .fields .fields .long, new-head _ (c .before .before .before .before .before .before .before .before .head-at .ensures) ((c .before .before .before .before .before .before .before .before .before .before .before .before .before .before .before .fields .inv) .in-line .fields .fields .long)))
 
 mul-r-2 : tie.Need-mul-r-2 Inv-fields μ-fields Inv-lines μ-lines
 mul-r-2 c = let b = c .before .before .before .before .before .before .before in let room = price-room (row-said (b .before .before .before .before .before .fields .inv) (b .before .before .before .if5 .left) (b .before .before .fields-of .ensures) (b .before .if7 .left) (b .line-number .ensures)) (c .before .before .before .before .before .before .if8 .left) in omega (arith, room)
@@ -155,7 +142,7 @@ lines-less-6 : tie.Need-lines-less-6 Inv-fields μ-fields Inv-lines μ-lines
 lines-less-6 c = let b = c .before .before .before .before .before .before .before in line-less ((row-said (b .before .before .before .before .before .fields .inv) (b .before .before .before .if5 .left) (b .before .before .fields-of .ensures) (b .before .if7 .left) (b .line-number .ensures)) .at-row)
 
 lines-again-6 : tie.Need-lines-again-6 Inv-fields μ-fields Inv-lines μ-lines
-lines-again-6 c = let b = c .before .before .before .before .before .before .before in (price-next (row-said (b .before .before .before .before .before .fields .inv) (b .before .before .before .if5 .left) (b .before .before .fields-of .ensures) (b .before .if7 .left) (b .line-number .ensures)) (c .before .before .before .before .before .before .if8 .left) (letter-Q (row-said (b .before .before .before .before .before .fields .inv) (b .before .before .before .if5 .left) (b .before .before .fields-of .ensures) (b .before .if7 .left) (b .line-number .ensures)) (c .before .before .before .before .if9 .left) (c .before .before .before .if10 .left) (c .before .before .if11 .left) (c .before .if12 .left)) (c .price-row2 .ensures), (b .before .before .before .before .before .fields .inv .in-line .fields .fields .long, record { long = b .before .before .before .before .before .fields .inv .in-line .fields .fields .long; told = c .before .before .before .before .before .head-at .ensures }))
+lines-again-6 c = let b = c .before .before .before .before .before .before .before in (price-next (row-said (b .before .before .before .before .before .fields .inv) (b .before .before .before .if5 .left) (b .before .before .fields-of .ensures) (b .before .if7 .left) (b .line-number .ensures)) (c .before .before .before .before .before .before .if8 .left) (letter-Q (row-said (b .before .before .before .before .before .fields .inv) (b .before .before .before .if5 .left) (b .before .before .fields-of .ensures) (b .before .if7 .left) (b .line-number .ensures)) (c .before .before .before .before .if9 .left) (c .before .before .before .if10 .left) (c .before .before .if11 .left) (c .before .if12 .left)) (c .price-row2 .ensures), (b .before .before .before .before .before .fields .inv .in-line .fields .fields .long, new-head _ (c .before .before .before .before .before .head-at .ensures) (b .before .before .before .before .before .fields .inv .in-line .fields .fields .long)))
 
 returns : tie.Need-returns Inv-fields μ-fields Inv-lines μ-lines
 returns c = lines-end (c .before .lines .inv .0) (c .if1 .taken)
@@ -167,8 +154,7 @@ returns-3 : tie.Need-returns-3 Inv-fields μ-fields Inv-lines μ-lines
 returns-3 c = c .empty-sheet3 .ensures ∙ letter-unended (c .before .before .before .before .before .before .before .lines .inv .0) (c .before .before .before .before .before .before .if1 .left) (c .before .before .before .before .before .if2 .left) (c .before .before .stop-of .ensures) (c .before .if4 .taken)
 
 returns-4 : tie.Need-returns-4 Inv-fields μ-fields Inv-lines μ-lines
-unfolding kindTable headForm futureForm optionForm stockForm priceForm
-returns-4 c = c .empty-sheet4 .ensures ∙ field-refused (c .before .before .before .before .before .before .before .before .fields .inv) (c .before .before .before .before .before .before .before .before .before .form-of .ensures) (c .before .before .before .before .before .before .if5 .taken) (c .before .before .before .before .field-at .ensures) (c .before .if6 .taken)
+returns-4 c = c .empty-sheet4 .ensures ∙ field-refused (c .before .before .before .before .before .before .before .before .fields .inv) (c .before .before .before .before .before .before .before .before .before .form-of .ensures) (c .before .before .before .before .before .before .before .before .before .before .before .before .before .before .before .before .before .before .before .before .asked-table .ensures) (c .before .before .before .before .before .before .if5 .taken) (c .before .before .before .before .field-at .ensures) (c .before .if6 .taken)
 
 returns-5 : tie.Need-returns-5 Inv-fields μ-fields Inv-lines μ-lines
 returns-5 c = c .empty-sheet5 .ensures ∙ fields-refused (c .before .before .before .before .before .fields .inv) (c .before .before .before .if5 .left) (c .before .before .fields-of .ensures) (c .before .if7 .taken)
@@ -192,7 +178,7 @@ read-lines-spec =
     (λ c κs. search needs)
     element-copy-out-next-figures
     element-copy-out-next-figures-2
-    next-figures-requires
+    (λ c κs. search needs)
     (λ c κs. search needs)
     (λ c. search needs)
     (λ c κs. search needs)
@@ -215,8 +201,8 @@ read-lines-spec =
     (λ c κs. search needs)
     fields-holds
     shared-slice-read-if5
-    add-kind
-    array-copy-out-kind
+    add-asked
+    array-copy-out-asked
     add-field-at
     (λ c κs. search needs)
     (λ c κs. search needs)
@@ -229,7 +215,7 @@ read-lines-spec =
     (λ c κs. search needs)
     (λ c κs. search needs)
     (λ c κs. search needs)
-    head-at-requires
+    (λ c κs. search needs)
     add-at-2
     (λ c. search needs)
     lines-less-2

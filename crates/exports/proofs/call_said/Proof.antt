@@ -4,7 +4,7 @@ use Rattle.exports.proofs.call_said.Statement.{statement}
 use Rattle.exports.proofs.call_said.Tie as tie
 
 returns : tie.Need-returns
-returns c = make-said _ _ _ (c .before .before .before .before .before .before .word .ensures) (c .before .before .before .before .before .if1 .taken) (c .before .before .word3 .ensures) (c .before .before .before .before .word2 .ensures) (c .before .before .before .byte-of .ensures) (c .before .word4 .ensures) (c .make .ensures)
+returns c = make-said _ _ _ (c .before .before .before .before .before .before .word .ensures) (c .before .before .before .before .before .if1 .taken) (c .before .before .word3 .ensures) (c .before .before .before .before .word2 .ensures) (c .before .before .before .identity-said .ensures) (c .before .word4 .ensures) (c .make .ensures)
 
 returns-2 : tie.Need-returns-2
 returns-2 c = open-said _ _ _ (c .before .before .before .before .before .before .before .word .ensures) (c .before .before .before .before .before .before .if1 .left) (c .before .before .before .before .before .if2 .taken) (c .before .before .series-said .ensures) (c .before .before .before .before .word5 .ensures) (c .before .before .before .side-said .ensures) (c .before .word6 .ensures) (c .«open» .ensures)
@@ -25,6 +25,7 @@ pub call-said-spec : {M : Type 1} → statement M
 call-said-spec =
     tie.close
     (tie.spec
+    (λ c. search needs)
     (λ c κs. search needs)
     (λ c. search needs)
     (λ c κs. search needs)

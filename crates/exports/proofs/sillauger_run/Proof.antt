@@ -1,44 +1,42 @@
-use Prim.Native.Nat.{_-_}
+use native.Mathlib.Omega.{arith}
 use borrow.Author.Needs.{needs}
-use Rattle.exports.specs.ExportLaws.{Running, run-starts, run-on, run-ends, run-is}
-use Rattle.exports.specs.Script.{callsIn}
+use Rattle.exports.specs.ExportLaws.{print-few, cells-enough, run-refused, run-unfit, run-done}
 use Rattle.exports.proofs.sillauger_run.Statement.{statement}
 use Rattle.exports.proofs.sillauger_run.Tie as tie
 
-abbrev Inv-loop : tie.InvT-loop
-Inv-loop book words numbers₀ out b₀ calls i₀ numbers b i = Running words calls b₀ numbers₀ numbers b i
+returns : tie.Need-returns
+returns c = run-refused _ _ _ _ _ (c .before .before .before .read .ensures) (c .before .if1 .taken) (c .code-of .ensures)
 
-abbrev μ-loop : tie.MeasureT-loop
-μ-loop book words numbers₀ out b₀ calls i₀ numbers b i = calls - i
+returns-2 : tie.Need-returns-2
+returns-2 c =
+    run-unfit _ _ _ _ _ (c .before .before .before .before .before .read .ensures) (c .before .before .before .if1 .left) (c .before .before .script-number .ensures)
+    (c .before .if2 .taken) (c .code-of2 .ensures)
 
-loop-holds : tie.Need-loop-holds Inv-loop μ-loop
-loop-holds c = run-starts _ _ _ _
+run-calls-requires : tie.Need-run-calls-requires
+run-calls-requires c κs = cells-enough _ _ _ (c .before .before .before .script-number .ensures) (c .before .before .if2 .left)
 
-loop-again : tie.Need-loop-again Inv-loop μ-loop
-loop-again c = run-on (c .before .before .before .loop .inv) (c .before .before .loop-test .taken) (c .before .call-said .ensures)
+cast-code-of : tie.Need-cast-code-of
+cast-code-of c = record { fits = print-few _ _ (c .before .before .before .print .ensures .0) }
 
-returns : tie.Need-returns Inv-loop μ-loop
-unfolding callsIn
-returns c =
-    let a = c .before .before .before .before .before .before .before .before .before .before .before .before .before .args in
-    run-is (a .book .now) (a .words .now) _ (a .numbers .now) (c .before .before .before .before .before .before .before .before .read .ensures) (c .before .before .before .before .before .before .lower .ensures) (run-ends (c .before .before .before .before .before .loop .inv) (c .before .before .before .before .loop-test .left)) (c .before .before .print .ensures)
+returns-3 : tie.Need-returns-3
+returns-3 c =
+    run-done _ _ _ _ _ (c .before .before .before .before .before .before .before .before .before .before .before .before .before .before .before .read .ensures) (c .before .before .before .before .before .before .before .before .before .before .before .before .before .if1 .left) (c .before .before .before .before .before .before .before .before .before .before .before .before .script-number .ensures)
+    (c .before .before .before .before .before .before .before .before .before .before .before .if2 .left) (c .before .before .before .before .before .before .before .before .run-calls .ensures) (c .before .before .before .before .print .ensures) (c .code-of3 .ensures)
 
 pub sillauger-run-spec : {M : Type 1} → statement M
 sillauger-run-spec =
     tie.close
     (tie.spec
-    Inv-loop
-    μ-loop
     (λ c κs. search needs)
     (λ c κs. search needs)
-    loop-holds
-    (λ c. search needs)
+    returns
     (λ c κs. search needs)
-    (λ c. search needs)
-    (λ c. search needs)
-    (λ c. search needs)
-    loop-again
+    (λ c κs. search needs)
+    returns-2
+    run-calls-requires
+    (λ c κs. search needs)
+    cast-code-of
     (λ c κs. search needs)
     (λ c. search needs)
     (λ c. search needs)
-    returns)
+    returns-3)

@@ -3,7 +3,7 @@ use Prim.Native.Nat.{_-_}
 use borrow.Author.Needs.{needs}
 use lib.ListN.{length}
 use Rattle.lines.specs.CutLaws.{next-here, next-on, next-end}
-use Rattle.lines.specs.Parts.{nextOf}
+use Rattle.lines.specs.Pieces.{nextOf}
 use Rattle.lines.proofs.next.Statement.{statement}
 use Rattle.lines.proofs.next.Tie as tie
 

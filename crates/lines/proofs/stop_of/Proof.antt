@@ -2,7 +2,7 @@ use mathlib.Core.Path.{_≡_, refl, sym, _∙_}
 use Prim.Native.Nat.{_-_}
 use borrow.Author.Needs.{needs}
 use lib.ListN.{length}
-use Rattle.lines.specs.Parts.{stopOf}
+use Rattle.lines.specs.Pieces.{stopOf}
 use Rattle.lines.specs.StopLaws.{tab-stops, lf-stops, other-not, stop-here, stop-on, stop-end}
 use Rattle.lines.proofs.stop_of.Statement.{statement}
 use Rattle.lines.proofs.stop_of.Tie as tie

@@ -1,6 +1,6 @@
 use borrow.Author.Tests.{lt-ltb, le-ltb}
 use borrow.Author.Needs.{needs}
-use Rattle.lines.specs.Parts.{stopsAt}
+use Rattle.lines.specs.Pieces.{stopsAt}
 use Rattle.lines.proofs.stops_at.Statement.{statement}
 use Rattle.lines.proofs.stops_at.Tie as tie
 

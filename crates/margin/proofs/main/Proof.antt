@@ -1,5 +1,6 @@
 use borrow.Author.Needs.{needs}
-use Rattle.statement.specs.StatementLaws.{statement-fits, line-inside, line-counts}
+use Rattle.put.specs.LineLaws.{line-inside, line-counts}
+use Rattle.statement.specs.StatementLaws.{statement-fits}
 use Rattle.margin.proofs.main.Statement.{statement}
 use Rattle.margin.proofs.main.Tie as tie
 

@@ -5,10 +5,10 @@ use Rattle.papers.proofs.answer_all.Statement.{statement}
 use Rattle.papers.proofs.answer_all.Tie as tie
 
 abbrev Inv-loop : tie.InvT-loop
-Inv-loop text desk₀ at₀ desk at = at ≤ length text + 1
+Inv-loop text at₀ at = at ≤ length text + 1
 
 abbrev μ-loop : tie.MeasureT-loop
-μ-loop text desk₀ at₀ desk at = length text + 1 - at
+μ-loop text at₀ at = length text + 1 - at
 
 pub answer-all-spec : {M : Type 1} → statement M
 answer-all-spec =
@@ -16,7 +16,6 @@ answer-all-spec =
     (tie.spec
     Inv-loop
     μ-loop
-    (λ c κs. search needs)
     (λ c. search needs)
     (λ c κs. search needs)
     (λ c. search needs)

@@ -1,7 +1,8 @@
 use native.Mathlib.Omega.{arith}
 use borrow.Author.Needs.{needs}
 use Rattle.put.specs.PutLaws.{put-is}
-use Rattle.printed.specs.PrintedLaws.{fixed-few, head-fits}
+use Rattle.put.specs.LineLaws.{fixed-few}
+use Rattle.printed.specs.PrintedLaws.{head-fits}
 use Rattle.printed.specs.Printed.{headText}
 use Rattle.printed.specs.PlacedLaws.{placed, placed-then, room-left, field-placed, fields-placed, line-placed}
 use Rattle.printed.proofs.put_head.Statement.{statement}

@@ -1,6 +1,6 @@
 use borrow.Author.Needs.{needs}
 use Rattle.put.specs.PutLaws.{put-is, put-says}
-use Rattle.printed.specs.PrintedLaws.{field-laid, fields-then, line-laid}
+use Rattle.put.specs.LineLaws.{field-laid, fields-then, line-laid}
 use Rattle.reports.specs.Reports.{bookText}
 use Rattle.reports.proofs.put_book.Statement.{statement}
 use Rattle.reports.proofs.put_book.Tie as tie

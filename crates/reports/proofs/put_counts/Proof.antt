@@ -1,6 +1,6 @@
 use borrow.Author.Needs.{needs}
 use Rattle.put.specs.PutLaws.{put-is, put-says}
-use Rattle.printed.specs.PrintedLaws.{fields-then, line-laid}
+use Rattle.put.specs.LineLaws.{fields-then, line-laid}
 use Rattle.reports.specs.Reports.{countsText}
 use Rattle.reports.proofs.put_counts.Statement.{statement}
 use Rattle.reports.proofs.put_counts.Tie as tie

@@ -6,15 +6,7 @@ use Rattle.rules.proofs.good_holding.Tie as tie
 
 returns : tie.Need-returns
 unfolding goodHolding
-returns c = simp (c .and3 .ensures, c .before .and2 .ensures, c .before .before .and .ensures, c .before .before .before .before .before .no-lots .ensures, c .before .before .before .before .before .before .series-number .ensures, good-by-number)
+returns c = simp (c .and .ensures, c .before .lots-good .ensures, c .before .before .series-number .ensures, good-by-number)
 
 pub good-holding-spec : {M : Type 1} → statement M
-good-holding-spec =
-    tie.close
-    (tie.spec
-    (λ c κs. search needs)
-    (λ c κs. search needs)
-    (λ c κs. search needs)
-    (λ c κs. search needs)
-    (λ c κs. search needs)
-    returns)
+good-holding-spec = tie.close (tie.spec (λ c κs. search needs) (λ c κs. search needs) (λ c κs. search needs) returns)

@@ -1,6 +1,6 @@
 use borrow.Author.Needs.{needs}
 use Rattle.put.specs.PutLaws.{put-is, put-says}
-use Rattle.printed.specs.PrintedLaws.{fields-then, line-laid}
+use Rattle.put.specs.LineLaws.{fields-then, line-laid}
 use Rattle.statement.specs.Statement.{resultText}
 use Rattle.statement.proofs.put_result.Statement.{statement}
 use Rattle.statement.proofs.put_result.Tie as tie

@@ -1,6 +1,7 @@
 use borrow.Author.Needs.{needs}
 use Rattle.put.specs.PutLaws.{put-is}
-use Rattle.statement.specs.StatementLaws.{result-fits, stated}
+use Rattle.statement.specs.StatementLaws.{result-fits}
+use Rattle.put.specs.LineLaws.{stated}
 use Rattle.statement.proofs.result.Statement.{statement}
 use Rattle.statement.proofs.result.Tie as tie
 

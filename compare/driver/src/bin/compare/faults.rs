@@ -151,30 +151,35 @@ impl Engine for Faulty<'_> {
         }
     }
 
-    fn margin(&self, book: &[u8], sheet: &[u8], times: u32, out: &mut [u8]) -> usize {
+    fn margin(&self, book: &[u8], sheet: &[u8], times: u32, out: &mut [u8]) -> Printed {
         let (book, sheet) = (self.seen(book), self.seen(sheet));
-        let length = self.inner.margin(&book, &sheet, times, out);
+        let answer = self.inner.margin(&book, &sheet, times, out);
+        if answer.number != 0 {
+            return answer;
+        }
+        let length = answer.length;
         let line = String::from_utf8_lossy(&out[..length]).trim_end().to_string();
         let mut fields: Vec<String> = line.split('\t').map(str::to_string).collect();
         self.margin_wrong(&book, &mut fields);
         let wrong = fields.join("\t") + "\n";
         out[..wrong.len()].copy_from_slice(wrong.as_bytes());
-        wrong.len()
+        Printed { length: wrong.len(), ..answer }
     }
 
-    fn run(&self, book: &[u8], words: &[u32], numbers: &mut [u8], out: &mut [u8]) -> usize {
-        let length = self.inner.run(book, words, numbers, out);
+    fn run(&self, book: &[u8], words: &[u32], numbers: &mut [u8], out: &mut [u8]) -> Printed {
+        let answer = self.inner.run(book, words, numbers, out);
+        let length = answer.length;
         for (call, number) in words.chunks(WORDS).zip(numbers.iter_mut()) {
             *number = self.number_wrong(call, *number);
         }
         let lines = lines_of(&out[..length]);
         if self.fault == 17 && lines.len() > 200 {
-            return length - lines[lines.len() - 1].len() - 1;
+            return Printed { length: length - lines[lines.len() - 1].len() - 1, ..answer };
         }
         if self.fault == 23 && lines.len() > 200 {
             refuse_last_pair(words, numbers, &lines);
         }
-        length
+        answer
     }
 }
 
