@@ -7,7 +7,7 @@ ghost use Rattle.levels.specs.Ranges.{AtMost};
 ghost use Rattle.sound.specs.Walk.{noRow, Keyed};
 ghost use Rattle.sheets.specs.View.{sheetView};
 ghost use Rattle.account.specs.Needed.{chargedLots};
-ghost use Rattle.account.specs.Margin.{times, plus, marginOn, marginText};
+ghost use Rattle.account.specs.Margin.{times, plus, marginOn};
 ghost use Rattle.account.specs.Walk.{Priced, QuotesAre, allBelow, sumBelow, partOf, rowLimit, holdingReady, holdingComes, pairReady, pairComes, readyAt, comesAt, pairReadyAt, pairComesAt, PairStands};
 use levels::Levels;
 use quotes::Quote;
@@ -37,6 +37,17 @@ fn refused(number: u8, line: u32) -> Margin
         number,
         line,
         levels: levels::same_at_all(0),
+    }
+}
+
+// Nothing is refused.
+fn due(levels: Levels) -> Margin
+    ensures { λ r. ⌜ r ≡ record { number = 0; line = 0; levels = levels } ⌝ }
+{
+    Margin {
+        number: 0,
+        line: 0,
+        levels,
     }
 }
 
@@ -260,16 +271,5 @@ pub fn margin_on(b: Book, sheet: Sheet) -> Margin
     }
     let sum = loose.levels;
     let more = tied.levels;
-    Margin {
-        number: 0,
-        line: 0,
-        levels: add(sum, more),
-    }
-}
-
-// The margin of a book on a text as sheet.
-pub fn margin_of(b: Book, text: &[u8]) -> Margin
-    ensures { λ r. ⌜ r ≡ marginText b (now (text .entry)) ⌝ }
-{
-    margin_on(b, checking::read(text))
+    due(add(sum, more))
 }

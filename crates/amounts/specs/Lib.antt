@@ -3,3 +3,4 @@ pub mod LineLaws
 pub mod Singles
 pub mod Lots
 pub mod AmountLaws
+pub mod Limits

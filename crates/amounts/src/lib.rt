@@ -8,6 +8,7 @@ ghost use Rattle.laws.specs.Truth.{pick};
 ghost use Rattle.rounding.specs.Rounding.{toDollar};
 ghost use Rattle.amounts.specs.Lines.{indexFits, stockFits, optionFits, futureAsked, indexAsked, stockAsked, termsAsked};
 ghost use Rattle.amounts.specs.Singles.{portion, dollars, premiumValue, outOfMoney, single, indexMargin, stockMargin, futureMargin};
+ghost use Rattle.amounts.specs.Limits.{lotFits, termsFit};
 ghost use Rattle.amounts.specs.Lots.{futureLot, optionLot, refusedLot, refusedTerms, fixedFuture, stockFuture, indexOption, stockOption, indexTerms, stockTerms};
 use levels::Levels;
 
@@ -375,4 +376,26 @@ pub fn stock_terms(s: StockLine) -> Terms
         };
     }
     no_terms()
+}
+
+// Whether a lot is one that a sheet can give.
+pub fn lot_fits(l: Lot) -> bool
+    ensures { λ r. ⌜ r ≡ lotFits l ⌝ }
+{
+    let margin = l.margin;
+    let sums = laws::and(
+        levels::levels_fit(4430000000, margin),
+        l.premium <= 2000000000,
+    );
+    let numbers = laws::and(l.price <= 100000000, l.strike <= 100000000);
+    laws::and(l.number == 0, laws::and(sums, numbers))
+}
+
+// Whether terms are ones that a sheet can give.
+pub fn terms_fit(t: Terms) -> bool
+    ensures { λ r. ⌜ r ≡ termsFit t ⌝ }
+{
+    let c = t.c;
+    let sums = laws::and(t.tenth <= 200000000, levels::levels_fit(2000000000, c));
+    laws::and(t.number == 0, laws::and(t.multiplier <= 20000, sums))
 }

@@ -8,7 +8,7 @@ use lib.Dec.{leb, ltb}
 use lib.ListN.{length, take, length-map}
 use borrow.Author.Tests.{ne-eqb}
 use Rattle.laws.specs.Truth.{pick, both, either}
-use Rattle.laws.specs.TruthLaws.{by-test, failed, passed}
+use Rattle.laws.specs.TruthLaws.{by-test}
 use Rattle.laws.specs.Search.{everyLine}
 use Rattle.laws.specs.Checks.{Check, firstFailing, allPass, numbered, orElse}
 use Rattle.laws.specs.CheckLaws.{first-of-two, no-failure, none-fails}
@@ -33,8 +33,6 @@ use Rattle.rules.specs.Lots.{firstLeg, secondLeg, total, free, unitsOf, freeRow
 use Rattle.rules.specs.LotLaws.{free-lots}
 use Rattle.rules.specs.Rules.{accountFits, isIdentity, lotsFit, countsFit, goodHolding, goodPair, soundBook}
 use Rattle.rules.specs.RuleLaws.{sound-is, holdings-good, holdings-count, pairs-good, holding-is, pair-is, counts-are}
-use Rattle.sound.specs.declared.Checked.{Checked}
-use Rattle.sound.specs.Checked.{checkedAs, checkedBook, notSound}
 use Rattle.calls.specs.Calls.{outcome, answered, makeChecks, bookChecks, heldOf, openChecks, closeChecks, legFree, pairingChecks, splitChecks, turnChecks}
 use Rattle.calls.specs.HeldLaws.{held-on, opened-rank, closed-rank, lots-stand}
 use Rattle.calls.specs.PairedLaws.{units-stand}
@@ -207,24 +205,3 @@ holdings-kept b h rows held k = λ i. heldRows b (k .rows-are i) (k .count-is i)
 pub pairs-kept : (b : Book) (p : Pair) (rows : List Pair) (paired : ℕ) → KeptIs emptyPair pairRank noUnits (b .paired) (b .pairs) p rows paired → pairedRows b rows paired ≡ withPairs b (kept pairRank noUnits p (pairsOf b))
 unfolding withPairs pairsOf
 pairs-kept b p rows paired k = λ i. pairedRows b (k .rows-are i) (k .count-is i)
-
--- What the check of a book answers: whether it is sound, and then its free lots.
-checked-as : (t : Bool) (hs : List Holding) (ps : List Pair) → checkedAs t hs ps .sound ≡ t
-unfolding checkedAs notSound
-checked-as true hs ps = refl
-checked-as false hs ps = refl
-
-module _ (b : Book) {c : Checked} (e : c ≡ checkedBook b) where
-  checked-is : c .sound ≡ soundBook b
-  unfolding checkedBook
-  checked-is = ap (λ (k : Checked). k .sound) e ∙ checked-as (soundBook b) (holdingsOf b) (pairsOf b)
-
-  pub checked-unsound : not (c .sound) ≡ true → soundBook b ≡ false
-  checked-unsound h = failed checked-is h
-
-  pub checked-sound : not (c .sound) ≡ false → soundBook b ≡ true
-  checked-sound h = passed checked-is h
-
-  pub checked-free : not (c .sound) ≡ false → c .free ≡ full 128 emptyHolding (freeRows (holdingsOf b) (pairsOf b))
-  unfolding checkedBook checkedAs
-  checked-free h = ap (λ (k : Checked). k .free) e ∙ rw (checked-sound h)

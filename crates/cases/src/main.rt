@@ -41,13 +41,13 @@ fn say(number: u64, text: &[u8]) {
 }
 
 fn say_desk(number: u64, book: &[u8], calls: &[u8]) {
-    let desk = desk_text::answer(book, calls);
+    let desk = reports::of_calls(book, calls);
     let text = desk.text;
     say(number, &text[..desk.length]);
 }
 
 fn say_margin(number: u64, book: &[u8], sheet: &[u8]) {
-    let line = statement::state(book, sheet);
+    let line = reports::of_margin(book, sheet);
     let text = line.text;
     say(number, &text[..line.length]);
 }

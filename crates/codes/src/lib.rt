@@ -91,8 +91,20 @@ fn unlisted_code(code: [u8; 3]) -> Product
     unknown_code(code)
 }
 
-// A line of the listed futures: its code, the full-size future behind it, and which part of that future it is.
-fn future_line(code: [u8; 3], parent: [u8; 3], part: u32) -> Product
+// A line of the full-size futures.
+fn full_line(code: [u8; 3]) -> Product
+    ensures { λ r. ⌜ r ≡ record { code = code; class = ListedFuture; parent = code; part = 1 } ⌝ }
+{
+    Product {
+        code,
+        class: Class::ListedFuture,
+        parent: code,
+        part: 1,
+    }
+}
+
+// A line of the other futures: its code, the full-size future behind it, and which part of that future it is.
+fn part_line(code: [u8; 3], parent: [u8; 3], part: u32) -> Product
     ensures { λ r. ⌜ r ≡ record { code = code; class = ListedFuture; parent = parent; part = part } ⌝ }
 {
     Product {
@@ -133,22 +145,22 @@ fn product_marked(mark: u32) -> Product
     ensures { λ r. ⌜ r ≡ productMarked mark ⌝ }
 {
     match mark {
-        8 => future_line(*b"TX\0", *b"TX\0", 1),
-        20 => future_line(*b"MTX", *b"TX\0", 4),
-        13 => future_line(*b"TMF", *b"TX\0", 20),
-        15 => future_line(*b"TE\0", *b"TE\0", 1),
-        21 => future_line(*b"ZEF", *b"TE\0", 8),
-        18 => future_line(*b"TF\0", *b"TF\0", 1),
-        24 => future_line(*b"ZFF", *b"TF\0", 4),
-        27 => future_line(*b"TGF", *b"TGF", 1),
-        16 => future_line(*b"UNF", *b"UNF", 1),
-        14 => future_line(*b"SXF", *b"SXF", 1),
-        2 => future_line(*b"GTF", *b"GTF", 1),
-        28 => future_line(*b"G2F", *b"G2F", 1),
-        23 => option_line(*b"TXO", *b"TX\0"),
-        30 => option_line(*b"TEO", *b"TE\0"),
-        1 => option_line(*b"TFO", *b"TF\0"),
-        4 => option_line(*b"TGO", *b"TGF"),
+        8 => full_line([b'T', b'X', 0]),
+        20 => part_line([b'M', b'T', b'X'], [b'T', b'X', 0], 4),
+        13 => part_line([b'T', b'M', b'F'], [b'T', b'X', 0], 20),
+        15 => full_line([b'T', b'E', 0]),
+        21 => part_line([b'Z', b'E', b'F'], [b'T', b'E', 0], 8),
+        18 => full_line([b'T', b'F', 0]),
+        24 => part_line([b'Z', b'F', b'F'], [b'T', b'F', 0], 4),
+        27 => full_line([b'T', b'G', b'F']),
+        16 => full_line([b'U', b'N', b'F']),
+        14 => full_line([b'S', b'X', b'F']),
+        2 => full_line([b'G', b'T', b'F']),
+        28 => full_line([b'G', b'2', b'F']),
+        23 => option_line([b'T', b'X', b'O'], [b'T', b'X', 0]),
+        30 => option_line([b'T', b'E', b'O'], [b'T', b'E', 0]),
+        1 => option_line([b'T', b'F', b'O'], [b'T', b'F', 0]),
+        4 => option_line([b'T', b'G', b'O'], [b'T', b'G', b'F']),
         _ => unknown_code([0; 3]),
     }
 }

@@ -5,7 +5,7 @@ fn main() {
     let mut book = [0u8; 16385];
     let n = io::read_full(libc::STDIN_FILENO, &mut calls);
     let b = files::load(b"book", &mut book);
-    let desk = desk_text::answer(&book[..b.count], &calls[..n]);
+    let desk = reports::of_calls(&book[..b.count], &calls[..n]);
     let text = desk.text;
     io::write_all(libc::STDOUT_FILENO, &text[..desk.length]);
 }

@@ -13,7 +13,7 @@ use Rattle.levels.specs.Ranges.{fixedFits, clearingFits, partFits, ratesFit, ra
 use Rattle.amounts.specs.Lines.{indexFits, stockFits, optionFits, futureAsked, indexAsked, stockAsked, termsAsked}
 use Rattle.amounts.specs.Singles.{indexMargin, stockMargin, futureMargin, single, worth, portion, outOfMoney, dollars, premiumValue}
 use Rattle.amounts.specs.Lots.{stockFuture, indexOption, stockOption, indexTerms, stockTerms}
-use Rattle.units.specs.Limits.{lotFits, termsFit}
+use Rattle.amounts.specs.Limits.{lotFits, termsFit}
 use Rattle.units.specs.Units.{unitMargin, unitNumber, unitChecks, formula, debitMargin, creditMargin, timeMargin, lowerPremium, mixedAt, mixedMargin, futureOptionMargin, conversionMargin, calendarMargin, productsMargin}
 use Rattle.edges.specs.Rows.{Row, rows, gives, txo, tenPercent}
 

@@ -4,7 +4,6 @@ use Rattle.laws.specs.OneAnswer.{one-answer}
 use Rattle.laws.proofs as laws
 use Rattle.dates.proofs as dates
 use Rattle.codes.proofs as codes
-use Rattle.ratios.proofs as ratios
 use Rattle.series.proofs as series
 use Rattle.legs.proofs as legs
 use Rattle.pairing.proofs as pairing
@@ -32,9 +31,7 @@ use Rattle.price_lines.proofs as price_lines
 use Rattle.checking.proofs as checking
 use Rattle.quotes.proofs as quotes
 use Rattle.account.proofs as account
-use Rattle.statement.proofs as statement
 use Rattle.reports.proofs as reports
-use Rattle.desk_text.proofs as desk_text
 use Rattle.exports.proofs as exports
 use Rattle.evidence.specs.OneAnswer.{OneAnswer}
 use Rattle.evidence.specs.OneAnswerLaws.{by-equation, by-equations}
@@ -109,15 +106,14 @@ codes-is-option-class κs a r s e f = by-equation
 pub codes-is-own-option : OneAnswer codes.is_own_option.ended codes.is_own_option.Reads.Learnt
 codes-is-own-option κs a r s e f = by-equation
 
--- ratios
-pub ratios-allowed-of : OneAnswer ratios.allowed_of.ended ratios.allowed_of.Reads.Learnt
-ratios-allowed-of κs a r s e f = by-equation
+pub legs-allowed-of : OneAnswer legs.allowed_of.ended legs.allowed_of.Reads.Learnt
+legs-allowed-of κs a r s e f = by-equation
 
-pub ratios-is-couple : OneAnswer ratios.is_couple.ended ratios.is_couple.Reads.Learnt
-ratios-is-couple κs a r s e f = by-equation
+pub legs-is-couple : OneAnswer legs.is_couple.ended legs.is_couple.Reads.Learnt
+legs-is-couple κs a r s e f = by-equation
 
-pub ratios-fits-ratio : OneAnswer ratios.fits_ratio.ended ratios.fits_ratio.Reads.Learnt
-ratios-fits-ratio κs a r s e f = by-equation
+pub legs-fits-ratio : OneAnswer legs.fits_ratio.ended legs.fits_ratio.Reads.Learnt
+legs-fits-ratio κs a r s e f = by-equation
 
 -- series
 pub series-nature-suits : OneAnswer series.nature_suits.ended series.nature_suits.Reads.Learnt
@@ -478,6 +474,12 @@ pub levels-halves : OneAnswer levels.halves.ended levels.halves.Reads.Learnt
 levels-halves κs a r s e f = by-equation
 
 -- amounts
+pub amounts-lot-fits : OneAnswer amounts.lot_fits.ended amounts.lot_fits.Reads.Learnt
+amounts-lot-fits κs a r s e f = by-equation
+
+pub amounts-terms-fit : OneAnswer amounts.terms_fit.ended amounts.terms_fit.Reads.Learnt
+amounts-terms-fit κs a r s e f = by-equation
+
 pub amounts-index-fits : OneAnswer amounts.index_fits.ended amounts.index_fits.Reads.Learnt
 amounts-index-fits κs a r s e f = by-equation
 
@@ -506,12 +508,6 @@ pub amounts-stock-terms : OneAnswer amounts.stock_terms.ended amounts.stock_term
 amounts-stock-terms κs a r s e f = by-equation
 
 -- units
-pub units-lot-fits : OneAnswer units.lot_fits.ended units.lot_fits.Reads.Learnt
-units-lot-fits κs a r s e f = by-equation
-
-pub units-terms-fit : OneAnswer units.terms_fit.ended units.terms_fit.Reads.Learnt
-units-terms-fit κs a r s e f = by-equation
-
 pub units-unit-margin : OneAnswer units.unit_margin.ended units.unit_margin.Reads.Learnt
 units-unit-margin κs a r s e f = by-equation
 
@@ -611,15 +607,15 @@ quotes-no-quote κs a r s e f = by-equation
 pub account-margin-on : OneAnswer account.margin_on.ended account.margin_on.Reads.Learnt
 account-margin-on κs a r s e f = by-equation
 
-pub account-margin-of : OneAnswer account.margin_of.ended account.margin_of.Reads.Learnt
-account-margin-of κs a r s e f = by-equation
+-- reports
+pub reports-margin-of : OneAnswer reports.margin_of.ended reports.margin_of.Reads.Learnt
+reports-margin-of κs a r s e f = by-equation
 
--- statement
-pub statement-line-of : OneAnswer statement.line_of.ended statement.line_of.Reads.Learnt
-statement-line-of κs a r s e f = by-equation
+pub reports-line-of : OneAnswer reports.line_of.ended reports.line_of.Reads.Learnt
+reports-line-of κs a r s e f = by-equation
 
-pub statement-state : OneAnswer statement.state.ended statement.state.Reads.Learnt
-statement-state κs a r s e f = by-equation
+pub reports-of-margin : OneAnswer reports.of_margin.ended reports.of_margin.Reads.Learnt
+reports-of-margin κs a r s e f = by-equation
 
 -- reports
 pub reports-of-book : OneAnswer reports.of_book.ended reports.of_book.Reads.Learnt
@@ -629,8 +625,8 @@ pub reports-of-sheet : OneAnswer reports.of_sheet.ended reports.of_sheet.Reads.L
 reports-of-sheet κs a r s e f = by-equation
 
 -- desk_text
-pub desk-text-answer : OneAnswer desk_text.answer.ended desk_text.answer.Reads.Learnt
-desk-text-answer κs a r s e f = by-equation
+pub reports-of-calls : OneAnswer reports.of_calls.ended reports.of_calls.Reads.Learnt
+reports-of-calls κs a r s e f = by-equation
 
 -- files: the contract of `load` is no equation, since nothing is known of which bytes a file holds (FileLaws; docs/CONTRACTS.md, "Exceptions")
 

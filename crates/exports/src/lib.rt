@@ -5,7 +5,7 @@ ghost use lib.ListN.{getD, length};
 ghost use Rattle.put.specs.Output.{outputOf};
 ghost use Rattle.reading.specs.Reading.{readBook};
 ghost use Rattle.checking.specs.Reading.{checkText};
-ghost use Rattle.statement.specs.Statement.{statementText};
+ghost use Rattle.reports.specs.Statement.{statementText};
 ghost use Rattle.exports.specs.Exports.{coded, readCoded, checkCoded, printedOf, printedExit, lineCoded, lineExit};
 ghost use Rattle.exports.specs.Script.{codeSaid, identitySaid, natureSaid, seriesSaid, sideSaid, pairSaid, callSaid, bookAfter, numbersAfter};
 ghost use Rattle.exports.specs.Runs.{scriptNumber, runCoded, runNumbers, runExit};
@@ -77,7 +77,7 @@ fn stated(book: &[u8], sheet: &[u8], times: u32) -> Output
         m = account::margin_on(b, s);
         i += 1;
     }
-    statement::line_of(b, m)
+    reports::line_of(b, m)
 }
 
 // That line in the buffer: 0 and its length, or 15 where the buffer is too short, which then keeps its bytes.

@@ -1,1 +1,3 @@
 pub mod Legs
+pub mod Ratios
+pub mod RatioLaws

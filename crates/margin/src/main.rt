@@ -5,7 +5,7 @@ fn main() {
     let mut sheet = [0u8; 65537];
     let b = files::load(b"book", &mut book);
     let s = files::load(b"sheet", &mut sheet);
-    let line = statement::state(&book[..b.count], &sheet[..s.count]);
+    let line = reports::of_margin(&book[..b.count], &sheet[..s.count]);
     let text = line.text;
     io::write_all(libc::STDOUT_FILENO, &text[..line.length]);
 }

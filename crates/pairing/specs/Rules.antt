@@ -8,7 +8,7 @@ use Rattle.laws.specs.Kinds.{byKind}
 use Rattle.laws.specs.Checks.{Check, _unless_, firstFailing, allPass}
 use Rattle.series.specs.declared.Series.{Series}
 use Rattle.pairing.specs.declared.Parts.{Parts}
-use Rattle.ratios.specs.Ratios.{allowedOf, isCouple, fitsRatio}
+use Rattle.legs.specs.Ratios.{allowedOf, isCouple, fitsRatio}
 use Rattle.legs.specs.Legs.{sameCode, twoProducts, sameNature, callThenPut, oneCallOnePut, futureThenOption, bothFutures, debitStrikes, oneToOne}
 
 abbrev pub any : Bool

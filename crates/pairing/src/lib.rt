@@ -50,10 +50,10 @@ fn future_with_option(future: Series, option: Series, r1: u32, r2: u32) -> Parts
 {
     let f = future.code;
     let o = option.code;
-    let allowed = ratios::allowed_of(f, o);
-    let codes = ratios::is_couple(allowed);
+    let allowed = legs::allowed_of(f, o);
+    let codes = legs::is_couple(allowed);
     let natures = legs::future_then_option(future, option);
-    let ratio = ratios::fits_ratio(allowed, r1, r2);
+    let ratio = legs::fits_ratio(allowed, r1, r2);
     rule_of(codes, natures, true, true, ratio)
 }
 

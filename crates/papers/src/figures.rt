@@ -7,46 +7,59 @@ use amounts::Terms;
 use levels::Answer;
 use levels::Levels;
 
-fn levels_of(clearing: u32, maintenance: u32, initial: u32) -> Levels {
+// Three fields.
+fn levels_at(line: &[u8], clearing: usize, maintenance: usize, initial: usize) -> Levels {
     Levels {
-        clearing: clearing as u64,
-        maintenance: maintenance as u64,
-        initial: initial as u64,
+        clearing: fields::value(line, clearing) as u64,
+        maintenance: fields::value(line, maintenance) as u64,
+        initial: fields::value(line, initial) as u64,
     }
 }
 
-fn index_line(n: [u32; 24]) -> IndexLine {
+fn index_line(line: &[u8]) -> IndexLine {
     IndexLine {
-        multiplier: n[5],
-        a: levels_of(n[6], n[7], n[8]),
-        b: levels_of(n[9], n[10], n[11]),
-        c: levels_of(n[12], n[13], n[14]),
-        underlying: n[15],
+        multiplier: fields::value(line, 6),
+        a: levels_at(line, 7, 8, 9),
+        b: levels_at(line, 10, 11, 12),
+        c: levels_at(line, 13, 14, 15),
+        underlying: fields::value(line, 16),
     }
 }
 
-fn stock_line(n: [u32; 24]) -> StockLine {
+fn stock_line(line: &[u8]) -> StockLine {
     StockLine {
-        shares: n[4],
-        future: n[5],
-        option: n[6],
-        c: levels_of(n[7], n[8], n[9]),
-        disposition: n[10],
-        price: n[11],
+        shares: fields::value(line, 5),
+        future: fields::value(line, 6),
+        option: fields::value(line, 7),
+        c: levels_at(line, 8, 9, 10),
+        disposition: fields::value(line, 11),
+        price: fields::value(line, 12),
     }
 }
 
-fn index_lot(o: IndexLine, clearing: u32, nature: u32, strike: u32, price: u32) -> Lot {
-    match nature {
-        0 => amounts::fixed_future(clearing, strike),
-        _ => amounts::index_option(o, nature == 1, strike, price),
+// The lot of an index whose nature, strike (of a future: its part) and price stand in these fields.
+fn index_lot(line: &[u8], o: IndexLine, nature: usize, strike: usize, price: usize) -> Lot {
+    match fields::value(line, nature) {
+        0 => amounts::fixed_future(fields::value(line, 5), fields::value(line, strike)),
+        n => amounts::index_option(
+            o,
+            n == 1,
+            fields::value(line, strike),
+            fields::value(line, price),
+        ),
     }
 }
 
-fn stock_lot(s: StockLine, nature: u32, strike: u32, price: u32) -> Lot {
-    match nature {
-        0 => amounts::stock_future(s, price),
-        _ => amounts::stock_option(s, nature == 1, strike, price),
+// The lot of a stock whose nature, strike and price stand in these fields.
+fn stock_lot(line: &[u8], s: StockLine, nature: usize, strike: usize, price: usize) -> Lot {
+    match fields::value(line, nature) {
+        0 => amounts::stock_future(s, fields::value(line, price)),
+        n => amounts::stock_option(
+            s,
+            n == 1,
+            fields::value(line, strike),
+            fields::value(line, price),
+        ),
     }
 }
 
@@ -69,44 +82,60 @@ fn put_lot(lot: Lot) {
     fields::put_amount(lot.premium);
 }
 
-// A unit: its lots, its terms, its margin.
-fn put_unit(n: [u32; 24], first: Lot, second: Lot, terms: Terms) {
+fn put_terms(terms: Terms) {
     let c = terms.c;
-    put_lot(first);
-    put_lot(second);
     fields::put_number(terms.number);
     fields::put_amount(terms.tenth);
     put_levels(c);
-    put_answer(units::unit_margin(n[0], first, second, terms, n[1], n[2], n[3] == 1));
 }
 
-fn answer_rates(n: [u32; 24]) {
-    let a = levels::stock_rates(n[0], n[1]);
+// A unit: its lots, its terms, its margin.
+fn put_unit(line: &[u8], first: Lot, second: Lot, terms: Terms) {
+    put_lot(first);
+    put_lot(second);
+    put_terms(terms);
+    let kind = fields::value(line, 1);
+    let r1 = fields::value(line, 2);
+    let r2 = fields::value(line, 3);
+    let charged = fields::value(line, 4) == 1;
+    put_answer(units::unit_margin(kind, first, second, terms, r1, r2, charged));
+}
+
+fn answer_rates(line: &[u8]) {
+    let a = levels::stock_rates(fields::value(line, 1), fields::value(line, 2));
     let l = a.levels;
     put_answer(a);
     put_levels(levels::halves(l));
 }
 
-fn answer_index(n: [u32; 24]) {
-    let o = index_line(n);
-    let first = index_lot(o, n[4], n[16], n[17], n[18]);
-    let second = index_lot(o, n[4], n[19], n[20], n[21]);
-    put_unit(n, first, second, amounts::index_terms(o, n[4]));
+fn answer_index(line: &[u8]) {
+    let o = index_line(line);
+    let terms = amounts::index_terms(o, fields::value(line, 5));
+    put_unit(
+        line,
+        index_lot(line, o, 17, 18, 19),
+        index_lot(line, o, 20, 21, 22),
+        terms,
+    );
 }
 
-fn answer_stock(n: [u32; 24]) {
-    let s = stock_line(n);
-    let first = stock_lot(s, n[12], n[13], n[14]);
-    let second = stock_lot(s, n[15], n[16], n[17]);
-    put_unit(n, first, second, amounts::stock_terms(s));
+fn answer_stock(line: &[u8]) {
+    let s = stock_line(line);
+    let terms = amounts::stock_terms(s);
+    put_unit(
+        line,
+        stock_lot(line, s, 13, 14, 15),
+        stock_lot(line, s, 16, 17, 18),
+        terms,
+    );
 }
 
-pub fn answer(letter: u8, line: &[u8]) {
-    let n = fields::numbers(line);
-    match letter {
-        b'F' => put_answer(levels::fixed_levels(n[0], n[1])),
-        b'R' => answer_rates(n),
-        b'I' => answer_index(n),
-        _ => answer_stock(n),
+pub fn answer(line: &[u8]) {
+    match fields::letter(line, 0) {
+        b'F' => put_answer(levels::fixed_levels(fields::value(line, 1), fields::value(line, 2))),
+        b'R' => answer_rates(line),
+        b'I' => answer_index(line),
+        b'J' => answer_stock(line),
+        _ => {}
     }
 }

@@ -14,16 +14,22 @@
 //                                a unit of a pair of an index; the clearing margin is that of its full-size future
 //   J kind r1 r2 charged SLINE LOT LOT
 //                                a unit of a pair of a stock
-//   W way                        a small book spoilt in one of fifteen ways, or in none: 16 or 0, as it is not sound or sound; then
-//                                the numbers of an open, a close, a pair, a split and a turn that it takes when it is sound
-//   V way                        the same, with calls that no book takes
+//   W BOOK                       a book, sound or spoilt: 16 or 0, as it is not sound or sound, and a digest of all that it
+//                                holds, unused room included; then of an open, a close, a pair, a split and a turn the number and
+//                                the digest of the book that comes back
+//   U BOOK                       the same, with no lots, a ratio that is not allowed, and an earlier day
+//   V BOOK                       the same, with no series, no lots, no units of no kind, and no day
 // OLINE and SLINE are a sheet's line without letter and code. LOT is a nature (0 future, 1 call, 2 put), a strike (of an index
 // future: its part) and a price. Printed are of each lot the number, the three margins and the premium value; the terms' number,
 // the tenth and the three C; the unit's number and its three margins. Any other line is printed as it stands.
+// BOOK is account, client code, day, the counts of holdings and pairs, how many of each there are, the long and the short lots of
+// each holding, the units of each pair, and the way in which the rows are spoilt: 6 and 13 the first two holdings or pairs are
+// swapped, 7 the first holding has no lots, 8 too many, 14 one long lot, 9 the first pair has too many units, 15 no kind, 10 the
+// last row of the holdings has one long lot, 11 the last row of the pairs one unit; 0 and all others, none.
 mod fields; // fields of a line, and what is printed
 mod single; // days, codes, series, their order, the rule of pairs, make
 mod figures; // amounts of lots and of units
-mod spoilt; // calls on a book that breaks a rule
+mod spoilt; // calls on books that break a rule
 
 ghost use Prim.Native.Nat.{_≤_};
 ghost use lib.ListN.{length};
@@ -31,14 +37,9 @@ ghost use lib.ListN.{length};
 // Prints a line and its answer.
 fn answer_line(line: &[u8]) {
     fields::put(line);
-    if 0 < line.len() {
-        let letter = line[0];
-        match letter {
-            b'F' | b'R' | b'I' | b'J' => figures::answer(letter, line),
-            b'W' | b'V' => spoilt::answer(letter, line),
-            _ => single::answer(letter, line),
-        }
-    }
+    single::answer(line);
+    figures::answer(line);
+    spoilt::answer(line);
     fields::put(b"\n");
 }
 

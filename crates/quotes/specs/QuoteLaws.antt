@@ -32,7 +32,7 @@ use Rattle.amounts.specs.Lines.{indexFits, stockFits, optionFits, futureAsked, 
 use Rattle.amounts.specs.LineLaws.{stock-is, future-asked-is}
 use Rattle.amounts.specs.AmountLaws.{future-most}
 use Rattle.amounts.specs.Lots.{refusedLot, fixedFuture, stockFuture, indexOption, stockOption}
-use Rattle.units.specs.Limits.{lotLimit, lotFits, termsFit}
+use Rattle.amounts.specs.Limits.{lotLimit, lotFits, termsFit}
 use Rattle.units.specs.LimitLaws.{lot-is}
 use Rattle.units.specs.UnitLaws.{fixed-lot, stock-future-lot, index-lot, stock-lot, index-terms-taken, stock-terms-taken}
 use Rattle.sheets.specs.declared.Found.{Found}

@@ -146,28 +146,28 @@ pub fn empty_sheet(number: u8, line: u32) -> Sheet
 pub fn future_place(code: [u8; 3]) -> usize
     ensures { λ r. ⌜ r ≡ futurePlace code ⌝ }
 {
-    if codes::same_code(code, *b"TX\0") {
+    if codes::same_code(code, [b'T', b'X', 0]) {
         return 0;
     }
-    if codes::same_code(code, *b"TE\0") {
+    if codes::same_code(code, [b'T', b'E', 0]) {
         return 1;
     }
-    if codes::same_code(code, *b"TF\0") {
+    if codes::same_code(code, [b'T', b'F', 0]) {
         return 2;
     }
-    if codes::same_code(code, *b"TGF") {
+    if codes::same_code(code, [b'T', b'G', b'F']) {
         return 3;
     }
-    if codes::same_code(code, *b"UNF") {
+    if codes::same_code(code, [b'U', b'N', b'F']) {
         return 4;
     }
-    if codes::same_code(code, *b"SXF") {
+    if codes::same_code(code, [b'S', b'X', b'F']) {
         return 5;
     }
-    if codes::same_code(code, *b"GTF") {
+    if codes::same_code(code, [b'G', b'T', b'F']) {
         return 6;
     }
-    if codes::same_code(code, *b"G2F") {
+    if codes::same_code(code, [b'G', b'2', b'F']) {
         return 7;
     }
     8
@@ -177,16 +177,16 @@ pub fn future_place(code: [u8; 3]) -> usize
 pub fn option_place(code: [u8; 3]) -> usize
     ensures { λ r. ⌜ r ≡ optionPlace code ⌝ }
 {
-    if codes::same_code(code, *b"TXO") {
+    if codes::same_code(code, [b'T', b'X', b'O']) {
         return 0;
     }
-    if codes::same_code(code, *b"TEO") {
+    if codes::same_code(code, [b'T', b'E', b'O']) {
         return 1;
     }
-    if codes::same_code(code, *b"TFO") {
+    if codes::same_code(code, [b'T', b'F', b'O']) {
         return 2;
     }
-    if codes::same_code(code, *b"TGO") {
+    if codes::same_code(code, [b'T', b'G', b'O']) {
         return 3;
     }
     4

@@ -1,4 +1,5 @@
 pub mod Checked
+pub mod AnswerLaws
 pub mod Walk
 pub mod ColumnLaws
 pub mod StepLaws

@@ -1,4 +1,4 @@
-pub mod Limits
+pub mod Facts
 pub mod Units
 pub mod LimitLaws
 pub mod UnitLaws

@@ -14,7 +14,8 @@ use Rattle.levels.specs.Ranges.{AtMost}
 use Rattle.levels.specs.RangeLaws.{levels-are, levels-fit}
 use Rattle.amounts.specs.declared.Lot.{Lot}
 use Rattle.amounts.specs.declared.Terms.{Terms}
-use Rattle.units.specs.Limits.{lotFits, termsFit, LotFacts, TermsFacts, UnitFacts}
+use Rattle.amounts.specs.Limits.{lotFits, termsFit}
+use Rattle.units.specs.Facts.{LotFacts, TermsFacts, UnitFacts}
 use Rattle.units.specs.Units.{lowerPremium, cCharged, unitChecks, unitNumber}
 
 pub lot-is : (l : Lot) → lotFits l ≡ true → LotFacts l

@@ -25,7 +25,8 @@ use Rattle.amounts.specs.Lines.{stockFits, futureAsked, indexAsked, stockAsked,
 use Rattle.amounts.specs.LineLaws.{OptionFacts, index-is, stock-is, option-is, future-asked-is, index-asked-is, stock-asked-is, terms-asked-is}
 use Rattle.amounts.specs.Lots.{futureLot, optionLot, fixedFuture, stockFuture, indexOption, stockOption, indexTerms, stockTerms}
 use Rattle.amounts.specs.AmountLaws.{worth-most, premium-most, future-most, index-most, stock-most, c-value-most, tenth-most}
-use Rattle.units.specs.Limits.{lotLimit, premiumLimit, cLimit, lotFits, termsFit, LotFacts, UnitFacts}
+use Rattle.amounts.specs.Limits.{lotLimit, premiumLimit, cLimit, lotFits, termsFit}
+use Rattle.units.specs.Facts.{LotFacts, UnitFacts}
 use Rattle.units.specs.Units.{debitMargin, creditMargin, timeMargin, lowerPremium, mixedAt, mixedMargin, futureOptionMargin, conversionMargin, calendarMargin, productsMargin, formula, unitChecks, unitNumber, unitMargin}
 use Rattle.units.specs.LimitLaws.{lot-fits, terms-fit, lower-most, charged-most}
 

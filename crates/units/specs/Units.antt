@@ -13,7 +13,7 @@ use Rattle.levels.specs.Levels.{perLevel, bothLevels, flat}
 use Rattle.amounts.specs.declared.Lot.{Lot}
 use Rattle.amounts.specs.declared.Terms.{Terms}
 use Rattle.amounts.specs.Singles.{worth}
-use Rattle.units.specs.Limits.{lotFits, termsFit}
+use Rattle.amounts.specs.Limits.{lotFits, termsFit}
 
 -- "1, nothing."
 unfoldable pub debitMargin : Levels

@@ -3,34 +3,12 @@ ghost use mathlib.Core.Path.{_≡_};
 ghost use Prim.Native.Nat.{_+_, _*_, _≤_, max};
 ghost use Rattle.levels.specs.Levels.{bothLevels};
 ghost use Rattle.levels.specs.Ranges.{AtMost};
-ghost use Rattle.units.specs.Limits.{lotFits, termsFit, LotFacts, UnitFacts};
+ghost use Rattle.units.specs.Facts.{LotFacts, UnitFacts};
 ghost use Rattle.units.specs.Units.{creditMargin, timeMargin, lowerPremium, mixedAt, mixedMargin, cCharged, futureOptionMargin, formula, unitNumber, unitMargin};
 use amounts::Lot;
 use amounts::Terms;
 use levels::Answer;
 use levels::Levels;
-
-// Whether a lot is one that a sheet can give.
-pub fn lot_fits(l: Lot) -> bool
-    ensures { λ r. ⌜ r ≡ lotFits l ⌝ }
-{
-    let margin = l.margin;
-    let amounts = laws::and(
-        levels::levels_fit(4430000000, margin),
-        l.premium <= 2000000000,
-    );
-    let numbers = laws::and(l.price <= 100000000, l.strike <= 100000000);
-    laws::and(l.number == 0, laws::and(amounts, numbers))
-}
-
-// Whether terms are ones that a sheet can give.
-pub fn terms_fit(t: Terms) -> bool
-    ensures { λ r. ⌜ r ≡ termsFit t ⌝ }
-{
-    let c = t.c;
-    let amounts = laws::and(t.tenth <= 200000000, levels::levels_fit(2000000000, c));
-    laws::and(t.number == 0, laws::and(t.multiplier <= 20000, amounts))
-}
 
 // The number that a unit is refused by, or 0.
 fn unit_number(kind: u32, first: Lot, second: Lot, terms: Terms, r1: u32, r2: u32) -> u8
@@ -39,9 +17,9 @@ fn unit_number(kind: u32, first: Lot, second: Lot, terms: Terms, r1: u32, r2: u3
     let by_kind = laws::unless(10, laws::in_range(1, 8, kind), 0);
     let by_r2 = laws::unless(6, laws::in_range(1, 100, r2), by_kind);
     let by_r1 = laws::unless(6, laws::in_range(1, 100, r1), by_r2);
-    let by_terms = laws::unless(2, terms_fit(terms), by_r1);
-    let by_second = laws::unless(2, lot_fits(second), by_terms);
-    laws::unless(2, lot_fits(first), by_second)
+    let by_terms = laws::unless(2, amounts::terms_fit(terms), by_r1);
+    let by_second = laws::unless(2, amounts::lot_fits(second), by_terms);
+    laws::unless(2, amounts::lot_fits(first), by_second)
 }
 
 // Kind 2: strike difference x multiplier.

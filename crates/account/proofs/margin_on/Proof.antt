@@ -71,16 +71,16 @@ add-requires c κs =
 
 returns-6 : tie.Need-returns-6
 returns-6 c =
-    let sound = sym (walked-sound _ (c .before .before .before .before .before .before .before .before .before .before .before .before .before .before .before .before .before .before .before .before .before .before .before .before .walked-book .ensures)) ∙ not-false _ (c .before .before .before .before .before .before .before .before .before .before .before .before .before .before .before .before .before .before .before .before .before .before .if1 .left) in
+    let sound = sym (walked-sound _ (c .before .before .before .before .before .before .before .before .before .before .before .before .before .before .before .before .before .before .before .before .before .before .before .before .before .walked-book .ensures)) ∙ not-false _ (c .before .before .before .before .before .before .before .before .before .before .before .before .before .before .before .before .before .before .before .before .before .before .before .if1 .left) in
     let s = sound-is _ sound in
-    let q = c .before .before .before .before .before .before .before .before .before .quote-rows .ensures in
-    let f = walked-free _ (c .before .before .before .before .before .before .before .before .before .before .before .before .before .before .before .before .before .before .before .before .before .before .before .before .walked-book .ensures) sound in
-    let l = walked-legs _ (c .before .before .before .before .before .before .before .before .before .before .before .before .before .before .before .before .before .before .before .before .before .before .before .before .walked-book .ensures) sound in
-    let loose = sym (part-ready _ _ (c .before .before .before .before .before .before .before .before .holdings-margin .ensures)) ∙ not-false _ (c .before .before .before .before .before .before .if4 .left) in
-    let tied = sym (part-ready _ _ (c .before .before .before .before .before .pairs-margin .ensures)) ∙ not-false _ (c .before .before .before .if5 .left) in
-    let sum = account-sum _ _ (part-levels _ _ (c .before .before .before .before .before .before .before .before .holdings-margin .ensures) loose ∙ loose-sum s q f) (part-levels _ _ (c .before .before .before .before .before .pairs-margin .ensures) tied ∙ tied-sum s q l true tied) in
-    ap (λ (l : Levels). record { number = 0; line = 0; levels = l }) (c .add .ensures ∙ sum)
-    ∙ sym (margin-worked _ _ sound (c .before .before .before .before .before .before .before .before .before .before .before .before .before .before .before .before .before .before .before .before .if2 .left) (c .before .before .before .before .before .before .before .before .before .before .before .before .before .before .before .before .before .if3 .left) (none-missing _ _ (sym (loose-ready s q f) ∙ loose) (sym (tied-ready s q l) ∙ tied)))
+    let q = c .before .before .before .before .before .before .before .before .before .before .quote-rows .ensures in
+    let f = walked-free _ (c .before .before .before .before .before .before .before .before .before .before .before .before .before .before .before .before .before .before .before .before .before .before .before .before .before .walked-book .ensures) sound in
+    let l = walked-legs _ (c .before .before .before .before .before .before .before .before .before .before .before .before .before .before .before .before .before .before .before .before .before .before .before .before .before .walked-book .ensures) sound in
+    let loose = sym (part-ready _ _ (c .before .before .before .before .before .before .before .before .before .holdings-margin .ensures)) ∙ not-false _ (c .before .before .before .before .before .before .before .if4 .left) in
+    let tied = sym (part-ready _ _ (c .before .before .before .before .before .before .pairs-margin .ensures)) ∙ not-false _ (c .before .before .before .before .if5 .left) in
+    let sum = account-sum _ _ (part-levels _ _ (c .before .before .before .before .before .before .before .before .before .holdings-margin .ensures) loose ∙ loose-sum s q f) (part-levels _ _ (c .before .before .before .before .before .before .pairs-margin .ensures) tied ∙ tied-sum s q l true tied) in
+    c .due .ensures ∙ ap (λ (l : Levels). record { number = 0; line = 0; levels = l }) (c .before .add .ensures ∙ sum)
+    ∙ sym (margin-worked _ _ sound (c .before .before .before .before .before .before .before .before .before .before .before .before .before .before .before .before .before .before .before .before .before .if2 .left) (c .before .before .before .before .before .before .before .before .before .before .before .before .before .before .before .before .before .before .if3 .left) (none-missing _ _ (sym (loose-ready s q f) ∙ loose) (sym (tied-ready s q l) ∙ tied)))
 
 pub margin-on-spec : {M : Type 1} → statement M
 margin-on-spec =
@@ -101,4 +101,5 @@ margin-on-spec =
     (λ c κs. search needs)
     returns-5
     add-requires
+    (λ c κs. search needs)
     returns-6)

@@ -1,13 +1,13 @@
 use borrow.Author.Needs.{needs}
-use Rattle.desk_text.specs.DeskLaws.{desk-inside, desk-counts}
+use Rattle.reports.specs.DeskLaws.{desk-inside, desk-counts}
 use Rattle.cases.proofs.say_desk.Statement.{statement}
 use Rattle.cases.proofs.say_desk.Tie as tie
 
 array-share-prefix-text : tie.Need-array-share-prefix-text
-array-share-prefix-text c = desk-inside _ _ _ (c .before .answer .ensures)
+array-share-prefix-text c = desk-inside _ _ _ (c .before .of-calls .ensures)
 
 slice-aggregate-say : tie.Need-slice-aggregate-say
-slice-aggregate-say c = desk-counts _ _ _ (c .before .before .answer .ensures)
+slice-aggregate-say c = desk-counts _ _ _ (c .before .before .of-calls .ensures)
 
 pub say-desk-spec : {M : Type 1} → statement M
 say-desk-spec =

@@ -1,13 +1,13 @@
 use borrow.Author.Needs.{needs}
-use Rattle.desk_text.specs.DeskLaws.{desk-inside, desk-counts}
+use Rattle.reports.specs.DeskLaws.{desk-inside, desk-counts}
 use Rattle.desk.proofs.main.Statement.{statement}
 use Rattle.desk.proofs.main.Tie as tie
 
 array-share-prefix-text : tie.Need-array-share-prefix-text
-array-share-prefix-text c = desk-inside _ _ _ (c .before .answer .ensures)
+array-share-prefix-text c = desk-inside _ _ _ (c .before .of-calls .ensures)
 
 slice-aggregate-write-all : tie.Need-slice-aggregate-write-all
-slice-aggregate-write-all c = desk-counts _ _ _ (c .before .before .answer .ensures)
+slice-aggregate-write-all c = desk-counts _ _ _ (c .before .before .of-calls .ensures)
 
 pub main-spec : {M : Type 1} → statement M
 main-spec =

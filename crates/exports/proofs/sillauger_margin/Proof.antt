@@ -1,6 +1,6 @@
 use borrow.Author.Needs.{needs}
 use Rattle.put.specs.LineLaws.{line-inside, line-counts}
-use Rattle.statement.specs.StatementLaws.{statement-fits}
+use Rattle.reports.specs.StatementLaws.{statement-fits}
 use Rattle.exports.specs.ExportLaws.{line-few, line-short, line-whole}
 use Rattle.exports.proofs.sillauger_margin.Statement.{statement}
 use Rattle.exports.proofs.sillauger_margin.Tie as tie

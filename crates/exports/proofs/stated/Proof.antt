@@ -3,7 +3,7 @@ use Prim.Native.Nat.{_-_}
 use native.Mathlib.Omega.{arith}
 use borrow.Author.Needs.{needs}
 use Rattle.account.specs.Margin.{marginOn}
-use Rattle.statement.specs.StatementLaws.{book-refused, book-stated}
+use Rattle.reports.specs.StatementLaws.{book-refused, book-stated}
 use Rattle.exports.specs.ExportLaws.{margin-is}
 use Rattle.exports.proofs.stated.Statement.{statement}
 use Rattle.exports.proofs.stated.Tie as tie

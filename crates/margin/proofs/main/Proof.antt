@@ -1,14 +1,14 @@
 use borrow.Author.Needs.{needs}
 use Rattle.put.specs.LineLaws.{line-inside, line-counts}
-use Rattle.statement.specs.StatementLaws.{statement-fits}
+use Rattle.reports.specs.StatementLaws.{statement-fits}
 use Rattle.margin.proofs.main.Statement.{statement}
 use Rattle.margin.proofs.main.Tie as tie
 
 array-share-prefix-text : tie.Need-array-share-prefix-text
-array-share-prefix-text c = line-inside _ (statement-fits _ _) _ (c .before .state .ensures)
+array-share-prefix-text c = line-inside _ (statement-fits _ _) _ (c .before .of-margin .ensures)
 
 slice-aggregate-write-all : tie.Need-slice-aggregate-write-all
-slice-aggregate-write-all c = line-counts _ (statement-fits _ _) _ (c .before .before .state .ensures)
+slice-aggregate-write-all c = line-counts _ (statement-fits _ _) _ (c .before .before .of-margin .ensures)
 
 pub main-spec : {M : Type 1} → statement M
 main-spec =

@@ -1,5 +1,6 @@
 use borrow.Author.Needs.{needs}
-use Rattle.calls.specs.NumberLaws.{close-unsound, close-number, checked-unsound, checked-sound, checked-free}
+use Rattle.calls.specs.NumberLaws.{close-unsound, close-number}
+use Rattle.sound.specs.AnswerLaws.{checked-unsound, checked-sound, checked-free}
 use Rattle.moves.proofs.close_number.Statement.{statement}
 use Rattle.moves.proofs.close_number.Tie as tie
 

@@ -10,19 +10,19 @@ returns c = simp (c .if1 .taken, ← c .before .same-code .ensures)
 
 returns-2 : tie.Need-returns-2
 unfolding optionPlace optionCodes placeIn
-returns-2 c = let a = c .before .before .before .before in simp (c .if2 .taken, ← c .before .same-code2 .ensures, a .if1 .left, ← a .before .same-code .ensures)
+returns-2 c = let a = c .before .before in simp (c .if2 .taken, ← c .before .same-code2 .ensures, a .if1 .left, ← a .before .same-code .ensures)
 
 returns-3 : tie.Need-returns-3
 unfolding optionPlace optionCodes placeIn
-returns-3 c = let a = c .before .before .before .before in let b = a .before .before .before .before in simp (c .if3 .taken, ← c .before .same-code3 .ensures, a .if2 .left, ← a .before .same-code2 .ensures, b .if1 .left, ← b .before .same-code .ensures)
+returns-3 c = let a = c .before .before in let b = a .before .before in simp (c .if3 .taken, ← c .before .same-code3 .ensures, a .if2 .left, ← a .before .same-code2 .ensures, b .if1 .left, ← b .before .same-code .ensures)
 
 returns-4 : tie.Need-returns-4
 unfolding optionPlace optionCodes placeIn
-returns-4 c = let a = c .before .before .before .before in let b = a .before .before .before .before in let d = b .before .before .before .before in simp (c .if4 .taken, ← c .before .same-code4 .ensures, a .if3 .left, ← a .before .same-code3 .ensures, b .if2 .left, ← b .before .same-code2 .ensures, d .if1 .left, ← d .before .same-code .ensures)
+returns-4 c = let a = c .before .before in let b = a .before .before in let d = b .before .before in simp (c .if4 .taken, ← c .before .same-code4 .ensures, a .if3 .left, ← a .before .same-code3 .ensures, b .if2 .left, ← b .before .same-code2 .ensures, d .if1 .left, ← d .before .same-code .ensures)
 
 returns-5 : tie.Need-returns-5
 unfolding optionPlace optionCodes placeIn
-returns-5 c = let a = c .before .before .before .before in let b = a .before .before .before .before in let d = b .before .before .before .before in simp (c .if4 .left, ← c .before .same-code4 .ensures, a .if3 .left, ← a .before .same-code3 .ensures, b .if2 .left, ← b .before .same-code2 .ensures, d .if1 .left, ← d .before .same-code .ensures)
+returns-5 c = let a = c .before .before in let b = a .before .before in let d = b .before .before in simp (c .if4 .left, ← c .before .same-code4 .ensures, a .if3 .left, ← a .before .same-code3 .ensures, b .if2 .left, ← b .before .same-code2 .ensures, d .if1 .left, ← d .before .same-code .ensures)
 
 pub option-place-spec : {M : Type 1} → statement M
 option-place-spec =

@@ -1,7 +1,8 @@
 use borrow.Author.Needs.{needs}
 use Rattle.rows.specs.Book.{pairsOf}
 use Rattle.rules.specs.Lots.{firstLeg, secondLeg}
-use Rattle.calls.specs.NumberLaws.{pair-unsound, pair-number, checked-unsound, checked-sound, checked-free}
+use Rattle.calls.specs.NumberLaws.{pair-unsound, pair-number}
+use Rattle.sound.specs.AnswerLaws.{checked-unsound, checked-sound, checked-free}
 use Rattle.ties.proofs.pairing_number.Statement.{statement}
 use Rattle.ties.proofs.pairing_number.Tie as tie
 
