@@ -16,7 +16,7 @@ use rows::{Book, Holding, Pair};
 use sheets::{Found, Sheet};
 
 // The three amounts, or the number and line of a refusal and zeros.
-#[derive(Drop)]
+#[derive(Clone, Copy)]
 pub struct Margin {
     pub number: u8,
     pub line: u32,
@@ -24,7 +24,7 @@ pub struct Margin {
 }
 
 // The sum over some rows, or that a line that they need is missing.
-#[derive(Drop)]
+#[derive(Clone, Copy)]
 struct Part {
     ready: bool,
     levels: Levels,

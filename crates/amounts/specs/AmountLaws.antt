@@ -1,19 +1,17 @@
 -- Laws of amounts: the largest that a lot of each family can come to, and that a tenth of a clearing margin is whole.
-use Rattle.std.specs.Prelude.{◌≡◌, refl, Bool, true, ℕ, ◌+◌, ◌-◌, ◌*◌, ◌/◌, ◌≤◌, max}
+use Rattle.std.specs.Prelude.{◌≡◌, refl, true, ℕ, ◌+◌, ◌-◌, ◌*◌, ◌/◌, ◌≤◌, max}
 use Rattle.std.proofs.Common.{ap, mul-le-mul, arith, lit≤}
-use Rattle.laws.specs.TruthLaws.{picked}
 use Rattle.rounding.specs.Rounding.{to_dollar, half_up, steps_near}
 use Rattle.rounding.specs.RoundingLaws.{dollar_most}
 use Rattle.levels.specs.declared.Levels.{Levels}
-use Rattle.levels.specs.Levels.{per_level, both_levels, rates_of, raised, half_of, flat}
+use Rattle.levels.specs.Levels.{per_level, rates_of, raised, half_of, flat}
 use Rattle.levels.specs.Ranges.{AtMost, clearing_fits, levels_fit, rates_fit, rate_fits, disposition_fits}
 use Rattle.levels.specs.RangeLaws.{clearing_is}
-use Rattle.levels.specs.LevelLaws.{each_at_most, both_at_most, rates_most, halves_most}
-use Rattle.amounts.specs.declared.IndexLine.{IndexLine}
+use Rattle.levels.specs.LevelLaws.{each_at_most, rates_most}
 use Rattle.amounts.specs.declared.StockLine.{StockLine}
 use Rattle.amounts.specs.Lines.{stock_fits, option_fits, stock_asked}
-use Rattle.amounts.specs.LineLaws.{IndexFacts, StockFacts, OptionFacts}
-use Rattle.amounts.specs.Singles.{portion, worth, dollars, premium_value, out_of_money, single, index_margin, stock_margin, future_margin}
+use Rattle.amounts.specs.LineLaws.{StockFacts}
+use Rattle.amounts.specs.Singles.{portion, worth, dollars, premium_value, out_of_money, single, stock_margin, future_margin}
 use Rattle.amounts.specs.Lots.{stock_option}
 
 -- A price of at most 100,000 dollars, by at most 20,000, by a rate.
@@ -25,7 +23,7 @@ pub worth_most : (price multiplier : ℕ) → price ≤ 100000000 → multiplier
 unfolding worth
 worth_most price multiplier p m = portion_most price multiplier 100000 {most = 100000} p m (lit≤ tt)
 
-portions_most : (price multiplier : ℕ) {most : ℕ} {rates : Levels} → price ≤ 100000000 → multiplier ≤ 20000 → AtMost most rates → AtMost (2000000000000 * most) (per_level (portion price multiplier) rates)
+pub portions_most : (price multiplier : ℕ) {most : ℕ} {rates : Levels} → price ≤ 100000000 → multiplier ≤ 20000 → AtMost most rates → AtMost (2000000000000 * most) (per_level (portion price multiplier) rates)
 portions_most price multiplier p m r = each_at_most (portion price multiplier) (λ n h. portion_most price multiplier n p m h) r
 
 dollars_most : (most : ℕ) {l : Levels} → AtMost (most * 100000000) l → AtMost most (per_level to_dollar l)
@@ -51,36 +49,15 @@ tenth_most s f =
     dollar_most _ 200000000 (portion_most s.price s.shares 10000 {most = 10000} f.price_most f.shares_most (lit≤ tt))
 
 -- A single margin is at most the premium and the larger of A and B.
-single_most : (premium out a b most : ℕ) {dollars : ℕ} → premium ≤ 200000000000000000 → a ≤ most → b ≤ most → 200000000000000000 + most ≤ dollars * 100000000 → single premium out a b ≤ dollars
+pub single_most : (premium out a b most : ℕ) {dollars : ℕ} → premium ≤ 200000000000000000 → a ≤ most → b ≤ most → 200000000000000000 + most ≤ dollars * 100000000 → single premium out a b ≤ dollars
 unfolding single
 single_most premium out a b most {dollars} p h k d = dollar_most _ dollars (omega arith)
 
-singles_most : (premium out most : ℕ) {a b : Levels} {dollars : ℕ} → premium ≤ 200000000000000000 → AtMost most a → AtMost most b → 200000000000000000 + most ≤ dollars * 100000000 → AtMost dollars (both_levels (single premium out) a b)
-singles_most premium out most p h k d = both_at_most (single premium out) (λ a b x y. single_most premium out a b most p x y d) h k
-
-exact_most : {l : Levels} → AtMost 100000000 l → AtMost 10000000000000000 (per_level dollars l)
+pub exact_most : {l : Levels} → AtMost 100000000 l → AtMost 10000000000000000 (per_level dollars l)
 unfolding dollars
 exact_most h = each_at_most dollars (λ n k. omega (arith, k)) h
 
--- A short option of an index comes to at most 2,100,000,000 dollars,
-pub index_most : (o : IndexLine) (call : Bool) (strike price : ℕ) → IndexFacts o → OptionFacts strike price → AtMost 2100000000 (index_margin o call strike price)
-unfolding index_margin
-index_most o call strike price f g =
-    singles_most _ _ 10000000000000000 (worth_most price o.multiplier g.value_most f.multiplier_most) (exact_most f.a_most) (exact_most f.b_most) (lit≤ tt)
-
--- one of a stock to at most 4,430,000,000,
-pub stock_most : (s : StockLine) (call : Bool) (strike price : ℕ) → StockFacts s → OptionFacts strike price → AtMost 4430000000 (stock_margin s call strike price)
-unfolding stock_margin
-stock_most s call strike price f g =
-    let rates = rates_most _ _ f.option_fits_lem in
-    let base = picked (λ (n : ℕ). n ≤ 100000000) call s.price strike (λ _. f.price_most) (λ _. g.strike_most) in
-    singles_most _ _ 243000000000000000
-    (worth_most price s.shares g.value_most f.shares_most)
-    (portions_most s.price s.shares f.price_most f.shares_most rates)
-    (portions_most _ s.shares base f.shares_most (halves_most rates))
-    (lit≤ tt)
-
--- and there is a line that gives so much.
+-- A line that gives a short option of a stock 4,430,000,000 dollars, the most that there is (proofs/MostLaws).
 unfoldable pub largest : StockLine
 largest = record { shares = 20000; future = 30000; option = 30000; c = flat 100000; disposition = 30; price = 100000000 }
 

@@ -14,7 +14,7 @@ ghost use Rattle.amounts.specs.Lots.{future_lot, option_lot, refused_lot, refuse
 use levels::Levels;
 
 // What a sheet says of a listed option (its O line): A, B and C in dollars.
-#[derive(Drop)]
+#[derive(Clone, Copy)]
 pub struct IndexLine {
     pub multiplier: u32,
     pub a: Levels,
@@ -25,7 +25,7 @@ pub struct IndexLine {
 
 // What a sheet says of a stock (its S line): the clearing rates of its futures and its options, and c, in thousandths of a
 // percent.
-#[derive(Drop)]
+#[derive(Clone, Copy)]
 pub struct StockLine {
     pub shares: u32,
     pub future: u32,
@@ -37,7 +37,7 @@ pub struct StockLine {
 
 // One lot of a future, or one short lot of an option: its margin, and of an option its premium value, price and strike. With a
 // refusal its number and zeros.
-#[derive(Drop)]
+#[derive(Clone, Copy)]
 pub struct Lot {
     pub number: u8,
     pub margin: Levels,
@@ -48,7 +48,7 @@ pub struct Lot {
 
 // What the pairs of an option code use beside their lots: multiplier, 10 percent of the parent's clearing margin or of the
 // security value, and C. With a refusal its number and zeros.
-#[derive(Drop)]
+#[derive(Clone, Copy)]
 pub struct Terms {
     pub number: u8,
     pub multiplier: u32,

@@ -16,7 +16,7 @@ use Rattle.pairing.specs.PairLaws.{pairs_numbered}
 use Rattle.rows.specs.declared.Holding.{Holding}
 use Rattle.rows.specs.declared.Pair.{Pair}
 use Rattle.rows.specs.Rows.{holding_rank, pair_rank}
-use Rattle.rules.specs.Rules.{is_identity, counts_fit, good_lots}
+use Rattle.rules.specs.Rules.{counts_fit, good_lots}
 use Rattle.book_lines.specs.declared.Item.{Item}
 use Rattle.book_lines.specs.Lines.{Line, head, holding, pair, formless, checks_by}
 use Rattle.book_lines.specs.Facts.{item, holding_of, pair_of, line_of, order_behind, room_behind, number_behind, worse}

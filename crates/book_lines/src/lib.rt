@@ -14,7 +14,7 @@ use rows::{Holding, Pair};
 use series::{Nature, Series};
 
 // A part of a line's form, as the paper writes it: SERIES is one, of four fields.
-#[derive(Drop)]
+#[derive(Clone, Copy)]
 pub enum Part {
     Nothing,
     Number,
@@ -25,7 +25,7 @@ pub enum Part {
 }
 
 // What a part of a line writes, a number or a series; whether it has its form, and the place of the tab or LF behind.
-#[derive(Drop)]
+#[derive(Clone, Copy)]
 pub struct Item {
     pub right: bool,
     pub number: u32,

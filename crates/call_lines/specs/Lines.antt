@@ -7,7 +7,6 @@ use Rattle.laws.specs.Text.{byte, bytes}
 use Rattle.series.specs.declared.Series.{Series}
 use Rattle.series.specs.declared.Side.{Side}
 use Rattle.series.specs.declared.Side.TheVariants.{Long, Short}
-use Rattle.rows.specs.declared.Pair.{Pair}
 use Rattle.lines.specs.declared.Asked.{Asked}
 use Rattle.lines.specs.declared.Asked.TheVariants.{Number, Date, Code, Mark}
 use Rattle.lines.specs.declared.Cell.{Cell}

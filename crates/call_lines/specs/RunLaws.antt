@@ -9,10 +9,11 @@ use Rattle.laws.specs.TruthLaws.{by_test, clash}
 use Rattle.rows.specs.declared.Book.{Book}
 use Rattle.rules.specs.Facts.{Sound}
 use Rattle.calls.specs.Calls.{make_answer}
-use Rattle.calls.specs.CallLaws.{make_keeps, open_keeps, close_keeps, pair_keeps, split_keeps, turn_keeps}
+use Rattle.calls.specs.CallLaws.{make_keeps, open_keeps, split_keeps, turn_keeps}
+use Rattle.calls.proofs.KeepLaws.{close_keeps, pair_keeps}
 use Rattle.history.specs.History.{BookCall, open_lots, close_lots, pair_units, split_units, turn_day, step, made, run, accepted}
 use Rattle.history.specs.Demand.{AsCounted}
-use Rattle.history.specs.HistoryLaws.{Since, since, history}
+use Rattle.history.proofs.HistoryLaws.{Since, since, history}
 use Rattle.lines.specs.Pieces.{lf, Pieces, one, more, split_on}
 use Rattle.call_lines.specs.Lines.{Line, make, call, formless, call_line}
 use Rattle.call_lines.specs.Work.{answer_to, answers_to, answers_in, is_make, made_in, makes_book}

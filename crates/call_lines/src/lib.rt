@@ -15,7 +15,7 @@ use rows::{Book, Pair};
 use series::{Series, Side};
 
 // The name of a call.
-#[derive(Drop)]
+#[derive(Clone, Copy)]
 enum Name {
     Nothing,
     Make,
@@ -27,7 +27,7 @@ enum Name {
 }
 
 // What stands behind each name: whether it has the form, and what it says.
-#[derive(Drop)]
+#[derive(Clone, Copy)]
 struct MakeLine {
     right: bool,
     account: u32,
@@ -35,7 +35,7 @@ struct MakeLine {
     day: u32,
 }
 
-#[derive(Drop)]
+#[derive(Clone, Copy)]
 struct LotsLine {
     right: bool,
     series: Series,
@@ -43,20 +43,20 @@ struct LotsLine {
     lots: u32,
 }
 
-#[derive(Drop)]
+#[derive(Clone, Copy)]
 struct UnitsLine {
     right: bool,
     pair: Pair,
 }
 
-#[derive(Drop)]
+#[derive(Clone, Copy)]
 struct DayLine {
     right: bool,
     day: u32,
 }
 
 // What a text of call lines comes to: 0, or 2 where it is too long; how many lines there are; the book; and the number that each line is answered by.
-#[derive(Drop)]
+#[derive(Clone, Copy)]
 pub struct Worked {
     pub number: u8,
     pub lines: usize,

@@ -24,11 +24,11 @@ use Rattle.rules.specs.LotLaws.{new_lots}
 use Rattle.rules.specs.Rules.{account_fits, is_identity, good_holding, good_pair}
 use Rattle.rules.specs.Facts.{Sound}
 use Rattle.rules.specs.RuleLaws.{sound_full}
-use Rattle.calls.specs.Calls.{answered, make_checks, make_answer, open_checks, opened, open_answer, close_checks, closed, close_answer, pairing_checks, joined, pair_answer, split_checks, parted, split_answer, turn_checks, turn_answer}
+use Rattle.calls.specs.Calls.{answered, make_checks, make_answer, open_checks, opened, open_answer, split_checks, parted, split_answer, turn_checks, turn_answer}
 use Rattle.calls.specs.Facts.{Turns}
-use Rattle.calls.specs.PassLaws.{one_passes, open_passes, close_passes, pair_passes, split_passes, turn_passes}
-use Rattle.calls.specs.OpenLaws.{open_sound, close_sound}
-use Rattle.calls.specs.TieLaws.{pair_sound, split_sound}
+use Rattle.calls.specs.PassLaws.{one_passes, open_passes, split_passes, turn_passes}
+use Rattle.calls.specs.OpenLaws.{open_sound}
+use Rattle.calls.specs.TieLaws.{split_sound}
 
 -- Every call: its number is 0 exactly when no check fails; then the book is the new one, else the one handed in.
 module _ (cs : List Check) (b new : Book) where
@@ -120,14 +120,6 @@ make_keeps account identity day = outcome_has (make_checks account identity day)
 pub open_keeps : (b : Book) (s : Series) (d : Side) (n : ℕ) → Sound b → Sound (open_answer b s d n).book
 unfolding open_answer
 open_keeps b s d n h = outcome_has (open_checks b s d n) b (opened b s d n) Sound h (λ e. open_sound (open_passes b s d n e))
-
-pub close_keeps : (b : Book) (s : Series) (d : Side) (n : ℕ) → Sound b → Sound (close_answer b s d n).book
-unfolding close_answer
-close_keeps b s d n h = outcome_has (close_checks b s d n) b (closed b s d n) Sound h (λ e. close_sound (close_passes b s d n e))
-
-pub pair_keeps : (b : Book) (p : Pair) → Sound b → Sound (pair_answer b p).book
-unfolding pair_answer
-pair_keeps b p h = outcome_has (pairing_checks b p) b (joined b p) Sound h (λ e. pair_sound (pair_passes b p e))
 
 pub split_keeps : (b : Book) (p : Pair) → Sound b → Sound (split_answer b p).book
 unfolding split_answer

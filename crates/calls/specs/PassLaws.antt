@@ -8,16 +8,16 @@ use Rattle.laws.specs.CheckLaws.{pass_both}
 use Rattle.series.specs.declared.Series.{Series}
 use Rattle.series.specs.declared.Side.{Side}
 use Rattle.series.specs.Checks.{series_checks, good_series}
-use Rattle.pairing.specs.Rules.{parts_of, pair_checks, may_stand}
+use Rattle.pairing.specs.Rules.{pair_checks}
 use Rattle.rows.specs.declared.Pair.{Pair}
 use Rattle.rows.specs.declared.Book.{Book}
 use Rattle.rows.specs.Book.{holdings_of, pairs_of}
-use Rattle.rules.specs.Lots.{Leg, first_leg, second_leg, tied, total, free, units_of}
-use Rattle.rules.specs.Rules.{counts_fit, sound_book}
+use Rattle.rules.specs.Lots.{Leg, tied, total, free, units_of}
+use Rattle.rules.specs.Rules.{sound_book}
 use Rattle.rules.specs.Facts.{Sound}
 use Rattle.rules.specs.RuleLaws.{sound_is}
 use Rattle.calls.specs.Calls.{make_checks, book_checks, open_checks, close_checks, leg_free, pairing_checks, split_checks, turn_checks}
-use Rattle.calls.specs.Facts.{finds, Opens, Closes, Pairs, Splits, Turns}
+use Rattle.calls.specs.Facts.{finds, Opens, Closes, Splits, Turns}
 
 -- Every check of every call refuses by a number that is not 0.
 pub make_numbered : (account identity day : ℕ) → numbered (make_checks account identity day) ≡ true
@@ -60,11 +60,11 @@ after_series b s ds e =
     let k = pass_both (series_checks s) ds h.1 in
     (sound_is b (only_sound b h.0), k.0, k.1)
 
-first_of : (n : ℕ) (x : Bool) (ds : List Check) → all_pass (n unless x ∷ ds) ≡ true → (x ≡ true) × (all_pass ds ≡ true)
+pub first_of : (n : ℕ) (x : Bool) (ds : List Check) → all_pass (n unless x ∷ ds) ≡ true → (x ≡ true) × (all_pass ds ≡ true)
 unfolding all_pass
 first_of n x ds e = both_true x (all_pass ds) e
 
-last_two : (m n : ℕ) (x y : Bool) → all_pass (m unless x ∷ n unless y ∷ []) ≡ true → (x ≡ true) × (y ≡ true)
+pub last_two : (m n : ℕ) (x y : Bool) → all_pass (m unless x ∷ n unless y ∷ []) ≡ true → (x ≡ true) × (y ≡ true)
 unfolding all_pass
 last_two m n x y e = let h = both_true x _ e in (h.0, one_passes y h.1)
 
@@ -88,7 +88,7 @@ close_passes b s d n e =
     let w = within_true 1 100000 n k.0 in
     record { sound = h.0; series_good = h.1; some = w.0; few = w.1; enough = leb-true n (free b s d) k.1 }
 
-after_two : (b : Book) (s t : Series) (ds : List Check) → all_pass (book_checks b ++ (series_checks s ++ (series_checks t ++ ds))) ≡ true → (Sound b) × (good_series s ≡ true) × (good_series t ≡ true) × (all_pass ds ≡ true)
+pub after_two : (b : Book) (s t : Series) (ds : List Check) → all_pass (book_checks b ++ (series_checks s ++ (series_checks t ++ ds))) ≡ true → (Sound b) × (good_series s ≡ true) × (good_series t ≡ true) × (all_pass ds ≡ true)
 unfolding good_series
 after_two b s t ds e =
     let h = after_series b s (series_checks t ++ ds) e in
@@ -98,25 +98,6 @@ after_two b s t ds e =
 pub leg_is_free : (b : Book) (leg : Leg) → leg_free b leg ≡ true → finds (holdings_of b) (pairs_of b) leg
 unfolding leg_free free
 leg_is_free b leg e = leb-true leg.lots (total (holdings_of b) leg.series leg.side - tied (pairs_of b) leg.series leg.side) e
-
-pub pair_passes : (b : Book) (p : Pair) → all_pass (pairing_checks b p) ≡ true → Pairs b p
-unfolding pairing_checks may_stand
-pair_passes b p e =
-    let h = after_two b p.first p.second _ e in
-    let c = first_of 6 (counts_fit p.r1 p.r2 p.units) _ h.3 in
-    let k = pass_both (pair_checks (parts_of p.kind p.first p.second p.r1 p.r2)) _ c.1 in
-    let m = last_two 9 11 _ _ k.1 in
-    let f = both_true (leg_free b (first_leg p)) (leg_free b (second_leg p)) m.0 in
-    record {
-      sound = h.0;
-      first_good = h.1;
-      second_good = h.2;
-      counts = c.0;
-      allowed = k.0;
-      first_free = leg_is_free b (first_leg p) f.0;
-      second_free = leg_is_free b (second_leg p) f.1;
-      room = m.1;
-    }
 
 pub split_passes : (b : Book) (p : Pair) → all_pass (split_checks b p) ≡ true → Splits b p
 unfolding split_checks

@@ -10,7 +10,8 @@ use Rattle.laws.specs.Truth.{pick, either}
 use Rattle.laws.specs.TruthLaws.{by_test}
 use Rattle.laws.specs.Search.{every_line}
 use Rattle.lists.specs.Sorted.{ascending, stands, kept}
-use Rattle.lists.specs.SortedLaws.{kept_ascends, kept_every, kept_fits}
+use Rattle.lists.specs.SortedLaws.{kept_ascends, kept_every}
+use Rattle.lists.proofs.FitLaws.{kept_fits}
 use Rattle.series.specs.declared.Series.{Series}
 use Rattle.series.specs.declared.Side.{Side}
 use Rattle.rows.specs.declared.Holding.{Holding}

@@ -5,7 +5,7 @@
 use rows::Book;
 
 // A call's answer: 0 and the book that results, or the number of the first check that fails and the book as it was handed in.
-#[derive(Drop)]
+#[derive(Clone, Copy)]
 pub struct Outcome {
     pub number: u8,
     pub book: Book,

@@ -6,95 +6,119 @@
 //   NNNN.sheet alone                           check_sheet
 #![tactic(auto)]
 
-ghost use Rattle.io.specs.Counts.{IsPrefixLen};
+ghost use Rattle.std.specs.Prelude.{◌≤◌, length, IfOk, OnOk};
+ghost use Rattle.std.specs.Io.KnownBytes.{Appends};
+ghost use Rattle.reading.specs.Reading.{read_book};
+ghost use Rattle.checking.specs.Reading.{judged};
+ghost use Rattle.reports.specs.Reports.{book_report, sheet_report};
+ghost use Rattle.reports.specs.Statement.{statement_text};
+ghost use Rattle.reports.specs.Desk.{desk_text};
+ghost use Rattle.cases.specs.Numbered.{numbered};
 
 use files::Loaded;
+use std::io;
+use std::io::Write;
+use std::rt::Files;
 
 // The file of a number; it is empty where there is none.
-fn load_calls(number: u64, buffer: &mut [u8]) -> Loaded
-    ensures { IsPrefixLen result.count buffer.new }
+fn load_calls<R: Files>(rt: &R, number: u64, buffer: &mut [u8]) -> io::Result<Loaded>
+    ensures { IfOk result (λ loaded. loaded.count ≤ length buffer.new) }
 {
     let mut name = *b"0000.calls";
     put::put_fixed(&mut name, 0, 4, number);
-    files::load(&name, buffer)
+    files::load(rt, &name, buffer)
 }
 
-fn load_book(number: u64, buffer: &mut [u8]) -> Loaded
-    ensures { IsPrefixLen result.count buffer.new }
+fn load_book<R: Files>(rt: &R, number: u64, buffer: &mut [u8]) -> io::Result<Loaded>
+    ensures { IfOk result (λ loaded. loaded.count ≤ length buffer.new) }
 {
     let mut name = *b"0000.book";
     put::put_fixed(&mut name, 0, 4, number);
-    files::load(&name, buffer)
+    files::load(rt, &name, buffer)
 }
 
-fn load_sheet(number: u64, buffer: &mut [u8]) -> Loaded
-    ensures { IsPrefixLen result.count buffer.new }
+fn load_sheet<R: Files>(rt: &R, number: u64, buffer: &mut [u8]) -> io::Result<Loaded>
+    ensures { IfOk result (λ loaded. loaded.count ≤ length buffer.new) }
 {
     let mut name = *b"0000.sheet";
     put::put_fixed(&mut name, 0, 4, number);
-    files::load(&name, buffer)
+    files::load(rt, &name, buffer)
 }
 
 // The number in four digits, an LF and the text.
-fn say(number: u64, text: &[u8]) {
+fn say<W: Write>(out: &mut W, number: u64, text: &[u8]) -> io::Result<()>
+    ensures { OnOk result (Appends (W.contents out.old) (W.contents out.new) (numbered number text.now)) }
+{
     let mut head = *b"0000\n";
     put::put_fixed(&mut head, 0, 4, number);
-    io::write_all(libc::STDOUT_FILENO, &head);
-    io::write_all(libc::STDOUT_FILENO, text);
+    out.write_all(&head)?;
+    out.write_all(text)
 }
 
-fn say_desk(number: u64, book: &[u8], calls: &[u8]) {
+fn say_desk<W: Write>(out: &mut W, number: u64, book: &[u8], calls: &[u8]) -> io::Result<()>
+    ensures { OnOk result (Appends (W.contents out.old) (W.contents out.new) (numbered number (desk_text book.now calls.now))) }
+{
     let desk = reports::of_calls(book, calls);
-    let text = desk.text;
-    say(number, &text[..desk.length]);
+    let text = &desk.text[..desk.length];
+    say(out, number, text)
 }
 
-fn say_margin(number: u64, book: &[u8], sheet: &[u8]) {
+fn say_margin<W: Write>(out: &mut W, number: u64, book: &[u8], sheet: &[u8]) -> io::Result<()>
+    ensures { OnOk result (Appends (W.contents out.old) (W.contents out.new) (numbered number (statement_text book.now sheet.now))) }
+{
     let line = reports::of_margin(book, sheet);
-    let text = line.text;
-    say(number, &text[..line.length]);
+    let text = &line.text[..line.length];
+    say(out, number, text)
 }
 
-fn say_book(number: u64, book: &[u8]) {
+fn say_book<W: Write>(out: &mut W, number: u64, book: &[u8]) -> io::Result<()>
+    ensures { OnOk result (Appends (W.contents out.old) (W.contents out.new) (numbered number (book_report (read_book book.now)))) }
+{
     let line = reports::of_book(book);
-    let text = line.text;
-    say(number, &text[..line.length]);
+    let text = &line.text[..line.length];
+    say(out, number, text)
 }
 
-fn say_sheet(number: u64, sheet: &[u8]) {
+fn say_sheet<W: Write>(out: &mut W, number: u64, sheet: &[u8]) -> io::Result<()>
+    ensures { OnOk result (Appends (W.contents out.old) (W.contents out.new) (numbered number (sheet_report (judged sheet.now)))) }
+{
     let line = reports::of_sheet(sheet);
-    let text = line.text;
-    say(number, &text[..line.length]);
+    let text = &line.text[..line.length];
+    say(out, number, text)
 }
 
 // The case of this number, if there is one. The buffers have room for a byte more than a text may have.
-fn answer(number: u64, book: &mut [u8], text: &mut [u8]) {
-    let b = load_book(number, book);
-    let c = load_calls(number, text);
+fn answer<R: Files, W: Write>(
+    rt: &R,
+    out: &mut W,
+    number: u64,
+    book: &mut [u8],
+    text: &mut [u8],
+) -> io::Result<()> {
+    let b = load_book(rt, number, book)?;
+    let c = load_calls(rt, number, text)?;
     if c.opened {
-        say_desk(number, &book[..b.count], &text[..c.count]);
-        return;
+        return say_desk(out, number, &book[..b.count], &text[..c.count]);
     }
-    let s = load_sheet(number, text);
+    let s = load_sheet(rt, number, text)?;
     if s.opened {
         if b.opened {
-            say_margin(number, &book[..b.count], &text[..s.count]);
-            return;
+            return say_margin(out, number, &book[..b.count], &text[..s.count]);
         }
-        say_sheet(number, &text[..s.count]);
-        return;
+        return say_sheet(out, number, &text[..s.count]);
     }
     if b.opened {
-        say_book(number, &book[..b.count]);
+        return say_book(out, number, &book[..b.count]);
     }
+    Ok(())
 }
 
-fn main() {
+fn main(rt: HostRuntime) -> io::Result<()> {
     let mut book = [0u8; 16385];
     let mut text = [0u8; 65537];
-    let mut number: u64 = 1;
-    while number < 10000 {
-        answer(number, &mut book, &mut text);
-        number += 1;
+    let mut out = rt.stdout();
+    for number in 1..10000 {
+        answer(&rt, &mut out, number, &mut book, &mut text)?;
     }
+    Ok(())
 }

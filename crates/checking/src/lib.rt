@@ -12,7 +12,7 @@ use price_lines::Head;
 use sheets::{Found, FutureRow, OptionRow, Sheet};
 
 // 0 and 0, or the number of the first check that fails and its line.
-#[derive(Drop)]
+#[derive(Clone, Copy)]
 pub struct Verdict {
     pub number: u8,
     pub line: u32,

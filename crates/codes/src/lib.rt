@@ -11,7 +11,7 @@ ghost use Rattle.codes.specs.declared.Class.TheVariants.{ListedFuture, ListedOpt
 use laws::Order;
 
 // What kind of product a code is.
-#[derive(Drop)]
+#[derive(Clone, Copy)]
 pub enum Class {
     Unknown,
     ListedFuture,
@@ -21,7 +21,7 @@ pub enum Class {
 }
 
 // What a code stands for: its class, the full-size future or the stock behind it, and which part of that future it is.
-#[derive(Drop)]
+#[derive(Clone, Copy)]
 pub struct Product {
     pub code: [u8; 3],
     pub class: Class,

@@ -1,5 +1,5 @@
--- Document 01, "How much each contract has to say": the contract of `sheets::price_of`, as a caller learns it. For a function that is lent a slice of
--- structs the checker writes no `Learnt`; this is the same reading of the `ensures`, which is one plain fact.
+-- Document 01, "How much each contract has to say": the contract of `sheets::price_of`, as a caller learns it: the reading of its `ensures`, which is
+-- one plain fact.
 use Rattle.std.specs.Prelude.{refl}
 use base.Logic.{emp}
 use contract.Lifetimes.{Lfts}

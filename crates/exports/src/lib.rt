@@ -1,4 +1,4 @@
-// What a comparison with another implementation links: texts, margins and scripts of calls, on byte slices and numbers.
+// What a comparison with another implementation links, through `exports_c`: texts, margins and scripts of calls, on byte slices and numbers.
 #![tactic(auto)]
 
 ghost use Rattle.std.specs.Prelude.{◌≡◌, ◌%◌, ◌/◌, ◌<◌, ◌≤◌, get_or, length};
@@ -23,8 +23,7 @@ fn code_of(number: u8, rest: u32) -> u64
 }
 
 // Read the text of a book: number and line.
-#[unsafe(no_mangle)]
-pub extern "C" fn sillauger_read(text: &[u8]) -> u64
+pub fn sillauger_read(text: &[u8]) -> u64
     ensures { result ≡ read_coded (read_book text.now) }
 {
     let a = reading::read(text);
@@ -32,8 +31,7 @@ pub extern "C" fn sillauger_read(text: &[u8]) -> u64
 }
 
 // Check the text of a sheet: number and line.
-#[unsafe(no_mangle)]
-pub extern "C" fn sillauger_check(sheet: &[u8]) -> u64
+pub fn sillauger_check(sheet: &[u8]) -> u64
     ensures { result ≡ check_coded (check_text sheet.now) }
 {
     let v = checking::check(sheet);
@@ -41,8 +39,7 @@ pub extern "C" fn sillauger_check(sheet: &[u8]) -> u64
 }
 
 // Read the text of a book and print it, so many times over the same bytes: number, and length or line.
-#[unsafe(no_mangle)]
-pub extern "C" fn sillauger_print(text: &[u8], times: u32, out: &mut [u8]) -> u64
+pub fn sillauger_print(text: &[u8], times: u32, out: &mut [u8]) -> u64
     ensures { (result ≡ printed_of (read_book text.now) out.old) × (out.new ≡ printed_exit (read_book text.now) out.old) }
 {
     let a = reading::read(text);
@@ -79,8 +76,7 @@ fn stated(book: &[u8], sheet: &[u8], times: u32) -> Output
 }
 
 // That line in the buffer: 0 and its length, or 15 where the buffer is too short, which then keeps its bytes.
-#[unsafe(no_mangle)]
-pub extern "C" fn sillauger_margin(book: &[u8], sheet: &[u8], times: u32, out: &mut [u8]) -> u64
+pub fn sillauger_margin(book: &[u8], sheet: &[u8], times: u32, out: &mut [u8]) -> u64
     ensures { (result ≡ line_coded (statement_text book.now sheet.now) out.old) × (out.new ≡ line_exit (statement_text book.now sheet.now) out.old) }
 {
     let line = stated(book, sheet, times);
@@ -261,13 +257,7 @@ fn script_number(words: usize, cells: usize, room: usize) -> u8
 
 // A script on the book of a text: each call's number, and the text of the book that results, 0 and its length; or why nothing was done: the
 // number and line of a refused book, 1 where words are left over, 15 where there are fewer cells than calls or less room than any book may need.
-#[unsafe(no_mangle)]
-pub extern "C" fn sillauger_run(
-    book: &[u8],
-    words: &[u32],
-    numbers: &mut [u8],
-    out: &mut [u8],
-) -> u64
+pub fn sillauger_run(book: &[u8], words: &[u32], numbers: &mut [u8], out: &mut [u8]) -> u64
     ensures { (result ≡ run_coded (read_book book.now) words.now numbers.old out.old) × ((numbers.new ≡ run_numbers (read_book book.now) words.now numbers.old out.old) × (out.new ≡ run_exit (read_book book.now) words.now numbers.old out.old)) }
 {
     let a = reading::read(book);

@@ -2,8 +2,5 @@ pub mod History
 pub mod Counts
 pub mod Demand
 pub mod AnswerLaws
-pub mod HistoryLaws
 pub mod SameLaws
-pub mod ProgramLaws
 pub mod Idle
-pub mod IdleLaws

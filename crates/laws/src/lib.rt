@@ -6,7 +6,7 @@ ghost use Rattle.laws.specs.Truth.{pick, both, either, within};
 ghost use Rattle.laws.specs.Checks.{or_else};
 ghost use Rattle.laws.specs.Order.{order_of, is_less, is_same, then_by};
 
-#[derive(Drop)]
+#[derive(Clone, Copy)]
 pub enum Order {
     Less,
     Same,

@@ -8,13 +8,13 @@ ghost use Rattle.legs.specs.Ratios.{names, line_allows, own_allows, allowed_of, 
 use series::Series;
 
 // What kind 5 allows of two codes: nothing, or r1 of the future to a least and a greatest r2 of the option.
-#[derive(Drop)]
+#[derive(Clone, Copy)]
 pub enum Allowed {
     Nothing,
     Ratio(u32, u32, u32),
 }
 
-#[derive(Drop)]
+#[derive(Clone, Copy)]
 pub struct RatioLine {
     pub future: [u8; 3],
     pub option: [u8; 3],

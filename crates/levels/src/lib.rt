@@ -6,7 +6,7 @@ ghost use Rattle.levels.specs.Levels.{per_level, flat, levels_of, part_of, raise
 ghost use Rattle.levels.specs.Ranges.{levels_fit, clearing_fits, part_fits, fixed_fits, rate_fits, disposition_fits, rates_fit};
 
 // One number for each level: dollars, or thousandths of a percent.
-#[derive(Drop)]
+#[derive(Clone, Copy)]
 pub struct Levels {
     pub clearing: u64,
     pub maintenance: u64,
@@ -14,7 +14,7 @@ pub struct Levels {
 }
 
 // A refusal's number, or 0 and the levels; zeros with a refusal.
-#[derive(Drop)]
+#[derive(Clone, Copy)]
 pub struct Answer {
     pub number: u8,
     pub levels: Levels,

@@ -13,7 +13,7 @@ ghost use Rattle.lines.specs.RunLaws.{RunIs};
 use series::{Nature, Series};
 
 // What the form of a line asks of a field.
-#[derive(Drop)]
+#[derive(Clone, Copy)]
 pub enum Asked {
     Nothing,
     Number,
@@ -24,7 +24,7 @@ pub enum Asked {
 }
 
 // What stands in a field: whether it has its form, its number, its code.
-#[derive(Drop)]
+#[derive(Clone, Copy)]
 pub struct Cell {
     pub right: bool,
     pub number: u32,
@@ -32,14 +32,14 @@ pub struct Cell {
 }
 
 // A field in a text: what stands in it, and the place of the tab or LF behind it.
-#[derive(Drop)]
+#[derive(Clone, Copy)]
 pub struct Field {
     pub cell: Cell,
     pub stop: usize,
 }
 
 // The series that four fields of a text write, whether they have their form, and the place of the tab or LF behind them.
-#[derive(Drop)]
+#[derive(Clone, Copy)]
 pub struct Written {
     pub right: bool,
     pub series: Series,
@@ -47,7 +47,7 @@ pub struct Written {
 }
 
 // Digits in a text: the number that they write, and the place behind them.
-#[derive(Drop)]
+#[derive(Clone, Copy)]
 struct Run {
     number: u32,
     stop: usize,

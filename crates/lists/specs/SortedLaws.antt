@@ -1,19 +1,17 @@
 -- Laws of rows in order: what a row put in its place, or given up, leaves of the order, of each other row, of tests of all rows
 -- and of sums.
-use Rattle.std.specs.Prelude.{◌≡◌, Bool, ltb, get_or, set}
+use Rattle.std.specs.Prelude.{◌≡◌, Bool, get_or, set}
 use Rattle.std.proofs.Math.Path.{refl, ap, sym, subst}
 use Rattle.std.proofs.Common.{◌∙◌}
-use Rattle.std.proofs.Math.Logic.{⊎_elim}
 use Rattle.std.proofs.Math.Bool.{true, false}
 use mathlib.Core.List.{List, [], ◌∷◌, ◌++◌, map}
 use Prim.Native.Nat.{ℕ, zero, suc, ◌+◌, ◌<◌, ◌≤◌}
 use native.Mathlib.Omega.{arith}
 use Rattle.std.proofs.Math.ListN.{length}
-use borrow.Author.Tests.{ltb-true}
 use Rattle.laws.specs.declared.Order.{Order}
 use Rattle.laws.specs.declared.Order.TheVariants.{Less}
 use Rattle.laws.specs.Truth.{pick, either}
-use Rattle.laws.specs.TruthLaws.{both_true, both_hold, either_true, clash, picked, by_test, false_unless}
+use Rattle.laws.specs.TruthLaws.{both_true, both_hold, clash, picked, by_test, false_unless}
 use Rattle.laws.specs.Bytes.{same_bytes}
 use Rattle.laws.specs.ByteLaws.{are_same, same_self}
 use Rattle.laws.specs.Search.{every_line, first_where}
@@ -186,7 +184,7 @@ module _ {A : Type 0} (rank : A → List ℕ) where
         s
 
   -- Room: a new row takes one place more, and a row that stands or is given up takes none.
-  placed_longer : (x : A) (l : List A) → length (placed rank x l) ≤ length l + 1
+  pub placed_longer : (x : A) (l : List A) → length (placed rank x l) ≤ length l + 1
   unfolding placed
   placed_longer x [] = omega arith
   placed_longer x (y ∷ l) =
@@ -195,7 +193,7 @@ module _ {A : Type 0} (rank : A → List ℕ) where
       (λ is. omega arith)
       (λ gt. omega arith)
 
-  placed_over : (x : A) (l : List A) → ascending rank l ≡ true → stands rank (rank x) l ≡ true → length (placed rank x l) ≡ length l
+  pub placed_over : (x : A) (l : List A) → ascending rank l ≡ true → stands rank (rank x) l ≡ true → length (placed rank x l) ≡ length l
   unfolding placed stands ascending
   placed_over x [] a s = absurd (clash s refl)
   placed_over x (y ∷ l) a s =
@@ -204,7 +202,7 @@ module _ {A : Type 0} (rank : A → List ℕ) where
       (λ is. refl)
       (λ gt. absurd (clash (subst (λ (b : Bool). either b (stands rank (rank x) l) ≡ true) (after_differs (rank y) (rank x) gt) s) (none_behind (rank x) (rank y) l gt a)))
 
-  without_shorter : (k : List ℕ) (l : List A) → length (without rank k l) ≤ length l
+  pub without_shorter : (k : List ℕ) (l : List A) → length (without rank k l) ≤ length l
   unfolding without
   without_shorter k [] = omega arith
   without_shorter k (x ∷ l) =
@@ -257,15 +255,6 @@ module _ {A : Type 0} (rank : A → List ℕ) where
         picked (λ (m : List A). every_line test m ≡ true) (gone x) (without rank (rank x) l) (placed rank x l)
         (λ q. without_every test (rank x) l e)
         (λ q. placed_every test x l (h q) e)
-
-    pub kept_fits : (n : ℕ) → length l ≤ n → either (stands rank (rank x) l) (ltb (length l) n) ≡ true → length (kept rank gone x l) ≤ n
-    unfolding kept
-    kept_fits n le e =
-        picked (λ (m : List A). length m ≤ n) (gone x) (without rank (rank x) l) (placed rank x l)
-        (λ q. let h = without_shorter (rank x) l in omega arith)
-        (λ q.
-        ⊎_elim (λ s. let h = placed_over x l a s in omega arith) (λ s. let h = placed_longer x l in let k = ltb-true (length l) n s in omega arith)
-        (either_true (stands rank (rank x) l) (ltb (length l) n) e))
 
     pub sum_kept : (f : A → ℕ) → f none ≡ 0 → (gone x ≡ true → x ≡ none) → sum_of f (kept rank gone x l) + f (look rank none (rank x) l) ≡ sum_of f l + f x
     unfolding kept

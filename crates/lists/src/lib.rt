@@ -3,7 +3,7 @@
 #![tactic(auto)]
 
 // The place of a row that was sought, or the place before which it would stand.
-#[derive(Drop)]
+#[derive(Clone, Copy)]
 pub enum Slot {
     At(usize),
     Before(usize),

@@ -10,7 +10,7 @@ ghost use Rattle.laws.specs.Checks.{first_failing};
 use series::{Series, Side};
 
 // Which parts of its kind's rule a pair meets.
-#[derive(Drop)]
+#[derive(Clone, Copy)]
 pub struct Parts {
     pub kind: bool,
     pub codes: bool,

@@ -2,6 +2,8 @@
 ghost use Rattle.std.specs.Prelude.{◌≤◌, length};
 
 use series::{Nature, Series};
+use std::io;
+use std::io::Write;
 
 // Where field k begins: behind the k-th tab, or at the end.
 fn place(line: &[u8], k: usize) -> usize
@@ -80,23 +82,23 @@ pub fn series(line: &[u8], k: u8) -> Series {
     Series { code, date, nature }
 }
 
-pub fn put(text: &[u8]) {
-    io::write_all(1, text);
+pub fn put<W: Write>(out: &mut W, text: &[u8]) -> io::Result<()> {
+    out.write_all(text)
 }
 
 // A letter, nothing for 0.
-pub fn put_letter(letter: u8) {
+pub fn put_letter<W: Write>(out: &mut W, letter: u8) -> io::Result<()> {
     if letter != 0 {
-        put(&[letter]);
+        put(out, &[letter])?;
     }
+    Ok(())
 }
 
 // A number, behind a tab.
-pub fn put_amount(n: u64) {
-    put(b"\t");
-    io::print_decimal(1, n);
+pub fn put_amount<W: Write>(out: &mut W, n: u64) -> io::Result<()> {
+    write!(out, "\t{n}")
 }
 
-pub fn put_number(n: u8) {
-    put_amount(n as u64);
+pub fn put_number<W: Write>(out: &mut W, n: u8) -> io::Result<()> {
+    put_amount(out, n as u64)
 }

@@ -2,6 +2,8 @@
 use super::fields;
 use amounts::{IndexLine, Lot, StockLine, Terms};
 use levels::{Answer, Levels};
+use std::io;
+use std::io::Write;
 
 // Three fields.
 fn levels_at(line: &[u8], clearing: usize, maintenance: usize, initial: usize) -> Levels {
@@ -59,79 +61,89 @@ fn stock_lot(line: &[u8], s: StockLine, nature: usize, strike: usize, price: usi
     }
 }
 
-fn put_levels(l: Levels) {
-    fields::put_amount(l.clearing);
-    fields::put_amount(l.maintenance);
-    fields::put_amount(l.initial);
+fn put_levels<W: Write>(out: &mut W, l: Levels) -> io::Result<()> {
+    fields::put_amount(out, l.clearing)?;
+    fields::put_amount(out, l.maintenance)?;
+    fields::put_amount(out, l.initial)
 }
 
-fn put_answer(a: Answer) {
-    let l = a.levels;
-    fields::put_number(a.number);
-    put_levels(l);
+fn put_answer<W: Write>(out: &mut W, a: Answer) -> io::Result<()> {
+    fields::put_number(out, a.number)?;
+    put_levels(out, a.levels)
 }
 
-fn put_lot(lot: Lot) {
-    let m = lot.margin;
-    fields::put_number(lot.number);
-    put_levels(m);
-    fields::put_amount(lot.premium);
+fn put_lot<W: Write>(out: &mut W, lot: Lot) -> io::Result<()> {
+    fields::put_number(out, lot.number)?;
+    put_levels(out, lot.margin)?;
+    fields::put_amount(out, lot.premium)
 }
 
-fn put_terms(terms: Terms) {
-    let c = terms.c;
-    fields::put_number(terms.number);
-    fields::put_amount(terms.tenth);
-    put_levels(c);
+fn put_terms<W: Write>(out: &mut W, terms: Terms) -> io::Result<()> {
+    fields::put_number(out, terms.number)?;
+    fields::put_amount(out, terms.tenth)?;
+    put_levels(out, terms.c)
 }
 
 // A unit: its lots, its terms, its margin.
-fn put_unit(line: &[u8], first: Lot, second: Lot, terms: Terms) {
-    put_lot(first);
-    put_lot(second);
-    put_terms(terms);
+fn put_unit<W: Write>(
+    out: &mut W,
+    line: &[u8],
+    first: Lot,
+    second: Lot,
+    terms: Terms,
+) -> io::Result<()> {
+    put_lot(out, first)?;
+    put_lot(out, second)?;
+    put_terms(out, terms)?;
     let kind = fields::value(line, 1);
     let r1 = fields::value(line, 2);
     let r2 = fields::value(line, 3);
     let charged = fields::value(line, 4) == 1;
-    put_answer(units::unit_margin(kind, first, second, terms, r1, r2, charged));
+    put_answer(
+        out,
+        units::unit_margin(kind, first, second, terms, r1, r2, charged),
+    )
 }
 
-fn answer_rates(line: &[u8]) {
+fn answer_rates<W: Write>(out: &mut W, line: &[u8]) -> io::Result<()> {
     let a = levels::stock_rates(fields::value(line, 1), fields::value(line, 2));
-    let l = a.levels;
-    put_answer(a);
-    put_levels(levels::halves(l));
+    put_answer(out, a)?;
+    put_levels(out, levels::halves(a.levels))
 }
 
-fn answer_index(line: &[u8]) {
+fn answer_index<W: Write>(out: &mut W, line: &[u8]) -> io::Result<()> {
     let o = index_line(line);
     let terms = amounts::index_terms(o, fields::value(line, 5));
     put_unit(
+        out,
         line,
         index_lot(line, o, 17, 18, 19),
         index_lot(line, o, 20, 21, 22),
         terms,
-    );
+    )
 }
 
-fn answer_stock(line: &[u8]) {
+fn answer_stock<W: Write>(out: &mut W, line: &[u8]) -> io::Result<()> {
     let s = stock_line(line);
     let terms = amounts::stock_terms(s);
     put_unit(
+        out,
         line,
         stock_lot(line, s, 13, 14, 15),
         stock_lot(line, s, 16, 17, 18),
         terms,
-    );
+    )
 }
 
-pub fn answer(line: &[u8]) {
+pub fn answer<W: Write>(out: &mut W, line: &[u8]) -> io::Result<()> {
     match fields::letter(line, 0) {
-        b'F' => put_answer(levels::fixed_levels(fields::value(line, 1), fields::value(line, 2))),
-        b'R' => answer_rates(line),
-        b'I' => answer_index(line),
-        b'J' => answer_stock(line),
-        _ => {}
+        b'F' => put_answer(
+            out,
+            levels::fixed_levels(fields::value(line, 1), fields::value(line, 2)),
+        ),
+        b'R' => answer_rates(out, line),
+        b'I' => answer_index(out, line),
+        b'J' => answer_stock(out, line),
+        _ => Ok(()),
     }
 }

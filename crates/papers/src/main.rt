@@ -35,13 +35,16 @@ mod spoilt; // calls on books that break a rule
 
 ghost use Rattle.std.specs.Prelude.{◌≤◌, length};
 
+use std::io;
+use std::io::{BufWriter, Read, Write};
+
 // Prints a line and its answer.
-fn answer_line(line: &[u8]) {
-    fields::put(line);
-    single::answer(line);
-    figures::answer(line);
-    spoilt::answer(line);
-    fields::put(b"\n");
+fn answer_line<W: Write>(out: &mut W, line: &[u8]) -> io::Result<()> {
+    fields::put(out, line)?;
+    single::answer(out, line)?;
+    figures::answer(out, line)?;
+    spoilt::answer(out, line)?;
+    fields::put(out, b"\n")
 }
 
 // Where the line that begins at `at` ends.
@@ -59,17 +62,20 @@ fn line_end(text: &[u8], at: usize) -> usize
     i
 }
 
-fn answer_all(text: &[u8]) {
+fn answer_all<W: Write>(out: &mut W, text: &[u8]) -> io::Result<()> {
     let mut at: usize = 0;
     while at < text.len() {
         let end = line_end(text, at);
-        answer_line(&text[at..end]);
+        answer_line(out, &text[at..end])?;
         at = end + 1;
     }
+    Ok(())
 }
 
-fn main() {
-    let mut text = io::large_buffer();
-    let n = io::read_full(0, &mut text);
-    answer_all(&text[..n]);
+fn main(rt: HostRuntime) -> io::Result<()> {
+    let mut text = Vec::new(rt.alloc());
+    rt.stdin().take(65536).read_to_end(&mut text)?;
+    let mut out = BufWriter::new(rt.alloc(), rt.stdout())?;
+    answer_all(&mut out, &text)?;
+    out.flush()
 }

@@ -5,6 +5,8 @@ use super::fields;
 use calls::Outcome;
 use rows::{Book, Holding, Pair};
 use series::{Nature, Series, Side};
+use std::io;
+use std::io::Write;
 
 // The series of a sample's rows: a future, then calls of rising strikes.
 fn series_of(i: u8) -> Series {
@@ -180,30 +182,35 @@ fn digest(b: Book) -> u64 {
 }
 
 // A number, and the digest of a book.
-fn put_outcome(o: Outcome) {
-    let b = o.book;
-    fields::put_number(o.number);
-    fields::put_amount(digest(b));
+fn put_outcome<W: Write>(out: &mut W, o: Outcome) -> io::Result<()> {
+    fields::put_number(out, o.number)?;
+    fields::put_amount(out, digest(o.book))
 }
 
 // Open and close of lots of a pair's first series, pair, split and turn.
-fn answer_calls(line: &[u8], p: Pair, lots: u32, day: u32) {
+fn answer_calls<W: Write>(
+    out: &mut W,
+    line: &[u8],
+    p: Pair,
+    lots: u32,
+    day: u32,
+) -> io::Result<()> {
     let b = sample(line);
     let s = p.first;
     let number = laws::unless(16, sound::is_sound(b), 0);
-    put_outcome(Outcome { number, book: b });
-    put_outcome(moves::open(b, s, Side::Long, lots));
-    put_outcome(moves::close(b, s, Side::Long, lots));
-    put_outcome(ties::pair(b, p));
-    put_outcome(ties::split(b, p));
-    put_outcome(moves::turn(b, day));
+    put_outcome(out, Outcome { number, book: b })?;
+    put_outcome(out, moves::open(b, s, Side::Long, lots))?;
+    put_outcome(out, moves::close(b, s, Side::Long, lots))?;
+    put_outcome(out, ties::pair(b, p))?;
+    put_outcome(out, ties::split(b, p))?;
+    put_outcome(out, moves::turn(b, day))
 }
 
-pub fn answer(line: &[u8]) {
+pub fn answer<W: Write>(out: &mut W, line: &[u8]) -> io::Result<()> {
     match fields::letter(line, 0) {
-        b'W' => answer_calls(line, units_of(1, 1, 1), 1, 20240103),
-        b'U' => answer_calls(line, units_of(1, 5, 1), 0, 20240101),
-        b'V' => answer_calls(line, rows::empty_pair(), 0, 0),
-        _ => {}
+        b'W' => answer_calls(out, line, units_of(1, 1, 1), 1, 20240103),
+        b'U' => answer_calls(out, line, units_of(1, 5, 1), 0, 20240101),
+        b'V' => answer_calls(out, line, rows::empty_pair(), 0, 0),
+        _ => Ok(()),
     }
 }

@@ -9,14 +9,14 @@ use lines::Cell;
 
 // Where it is right, the Q line of an option begins at `at`: a line that begins with the same fifteen bytes has its
 // code and its date.
-#[derive(Drop)]
+#[derive(Clone, Copy)]
 pub struct Head {
     pub right: bool,
     pub at: usize,
 }
 
 // What stands behind the head of an option's Q line: the mark, the strike and the price; and the place of its LF.
-#[derive(Drop)]
+#[derive(Clone, Copy)]
 pub struct Figures {
     pub right: bool,
     pub mark: u32,

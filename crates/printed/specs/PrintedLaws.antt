@@ -1,5 +1,5 @@
 -- Laws of the printer: the rows' loops, and that the text of a sound book fits the buffer.
-use Rattle.std.specs.Prelude.{◌≡◌, refl, Bool, List, [], ◌∷◌, ◌++◌, ℕ, suc, ◌+◌, ◌*◌, ◌≤◌, ◌<◌, eqb, length, get_or, take, drop}
+use Rattle.std.specs.Prelude.{◌≡◌, Bool, List, [], ◌∷◌, ◌++◌, ℕ, ◌*◌, ◌≤◌, ◌<◌, eqb, length, get_or, take, drop}
 use Rattle.std.proofs.Common.{sym, ◌∙◌, ap, append_assoc, append-nil, suc-mul, arith, length-append, length-take, take_at}
 use Rattle.std.proofs.Math.Bool.{true, false}
 use borrow.Author.Tests.{le-leb, lt-leb}
@@ -21,7 +21,7 @@ use Rattle.rows.specs.Book.{holdings_of, pairs_of}
 use Rattle.rules.specs.Rules.{good_holding, good_pair, sound_book}
 use Rattle.rules.specs.RuleLaws.{holding_is, pair_is, counts_are, sound_is, holdings_good, pairs_good, holdings_count, pairs_count}
 use Rattle.digits.specs.Digits.{fixed, numerals}
-use Rattle.digits.specs.FigureLaws.{length_fixed, numerals_few}
+use Rattle.digits.specs.FigureLaws.{numerals_few}
 use Rattle.put.specs.Put.{end_of}
 use Rattle.put.specs.PutLaws.{Put, put_then, laid_start, length_laid}
 use Rattle.put.specs.LineLaws.{field_fits, last_fits, fields_fit, line_fits, fixed_few}

@@ -14,7 +14,7 @@ use rows::{Book, Holding, Pair};
 use series::Series;
 
 // 0 and the length of the text, or the number of the first check that fails and 0.
-#[derive(Drop)]
+#[derive(Clone, Copy)]
 pub struct Printed {
     pub number: u8,
     pub length: usize,

@@ -9,7 +9,7 @@ ghost use Rattle.put.specs.Put.{laid, end_of};
 ghost use Rattle.put.specs.Output.{refusal_text, output_of};
 
 // A line: its bytes, then zeros, and how many they are.
-#[derive(Drop)]
+#[derive(Clone, Copy)]
 pub struct Output {
     pub text: [u8; 96],
     pub length: usize,

@@ -159,9 +159,9 @@ lot_taken v s g =
     each_class (λ (c : Class). suits c s.nature ≡ true → on_sheet v (own_line (classed p c) s) ≡ true → lot_fits (lot_as v (classed p c) s) ≡ true) p.class
     (λ n l. absurd (clash l refl))
     (λ n l. fixed_lot _ _ (both_hold (clearing_fits_lem v p.parent) (part_fits_lem s.code r.0)))
-    (λ n l. index_lot _ _ _ _ (both_hold l (both_hold (strike_fits_lem _ s.nature refl n) (price_fits v s))))
+    (λ n l. index_lot _ _ _ _ (both_hold l (both_hold (strike_fits_lem ListedOption s.nature refl n) (price_fits v s))))
     (λ n l. stock_future_lot _ _ (both_hold l (price_fits v s)))
-    (λ n l. stock_lot _ _ _ _ (both_hold l (both_hold (strike_fits_lem _ s.nature refl n) (price_fits v s))))
+    (λ n l. stock_lot _ _ _ _ (both_hold l (both_hold (strike_fits_lem StockOption s.nature refl n) (price_fits v s))))
     r.2
 
 -- and so are the terms of its pairs.

@@ -17,7 +17,7 @@ use sheets::Found;
 
 // Whether the line of its own (F, O or S) is on the sheet, whether all lines are that a lot needs, and whether the one is that an index
 // time spread needs beside them; the lot, and the terms of its pairs.
-#[derive(Drop)]
+#[derive(Clone, Copy)]
 pub struct Quote {
     pub lined: bool,
     pub ready: bool,

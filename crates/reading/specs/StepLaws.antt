@@ -1,5 +1,5 @@
 -- Laws of the loop over lines: where a line begins, how it is refused, and what the next one finds.
-use Rattle.std.specs.Prelude.{◌≡◌, Bool, true, List, ltb, eqb, get_or, drop, set}
+use Rattle.std.specs.Prelude.{◌≡◌, Bool, true, List, ltb, eqb, drop, set}
 use Rattle.std.proofs.Math.Path.{refl, sym}
 use Rattle.std.proofs.Common.{ap, ◌∙◌, subst, inl, ⊎_elim, drop_of_length-le}
 use Prim.Native.Nat.{ℕ, suc, ◌+◌, ◌-◌, ◌*◌, ◌%◌, ◌<◌, ◌≤◌}

@@ -13,7 +13,7 @@ use rows::{Book, Holding, Pair};
 use series::{Series, Side};
 
 // 0 and the book, or the number of the first check that fails, its line, and the empty book.
-#[derive(Drop)]
+#[derive(Clone, Copy)]
 pub struct Answer {
     pub number: u8,
     pub line: u32,
@@ -41,7 +41,7 @@ fn accept(book: Book) -> Answer
 }
 
 // Where the lots of a line's two legs stand, and whether they are free.
-#[derive(Drop)]
+#[derive(Clone, Copy)]
 struct Legs {
     first: usize,
     second: usize,

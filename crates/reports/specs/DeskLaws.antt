@@ -24,7 +24,7 @@ use Rattle.printed.specs.Printed.{text_of, print_checks, print_answer, print_exi
 use Rattle.printed.specs.PrintedLaws.{text_fits}
 use Rattle.reading.specs.declared.Answer.{Answer}
 use Rattle.reading.specs.Reading.{read_book}
-use Rattle.trip.specs.TripLaws.{read_sound}
+use Rattle.trip.proofs.TripLaws.{read_sound}
 use Rattle.call_lines.specs.declared.Worked.{Worked}
 use Rattle.call_lines.specs.Work.{answers_in, worked_as, worked, makes_book}
 use Rattle.call_lines.specs.BoundLaws.{numbers_few, numbers_small}

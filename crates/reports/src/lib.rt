@@ -154,7 +154,7 @@ pub fn of_margin(book: &[u8], sheet: &[u8]) -> Output
 }
 
 // A text: its bytes, then zeros, and how many they are.
-#[derive(Drop)]
+#[derive(Clone, Copy)]
 pub struct Desk {
     pub text: [u8; 737280],
     pub length: usize,

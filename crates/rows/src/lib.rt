@@ -11,7 +11,7 @@ use laws::Order;
 use series::{Nature, Series, Side};
 
 // A series with its long and short totals.
-#[derive(Drop)]
+#[derive(Clone, Copy)]
 pub struct Holding {
     pub series: Series,
     pub long: u32,
@@ -19,7 +19,7 @@ pub struct Holding {
 }
 
 // A kind, two series, the lots per unit of each, and units.
-#[derive(Drop)]
+#[derive(Clone, Copy)]
 pub struct Pair {
     pub kind: u32,
     pub first: Series,
@@ -30,7 +30,7 @@ pub struct Pair {
 }
 
 // The first `held` holdings and the first `paired` pairs are live; the room behind them is empty.
-#[derive(Drop)]
+#[derive(Clone, Copy)]
 pub struct Book {
     pub account: u32,
     pub identity: u8,

@@ -3,5 +3,4 @@ pub mod FreeLaws
 pub mod OpenLaws
 pub mod Sample
 pub mod SampleLaws
-pub mod IdleLaws
 pub mod LimitLaws

@@ -1,8 +1,8 @@
 -- Document 01, "Rates and amounts": "The account's margin is the sum." How large it can be: no margin call answers more than account_limit at any
 -- level, whatever the book and the sheet.
-use Rattle.std.specs.Prelude.{◌≡◌, Bool, false, ℕ, suc, ◌+◌, ◌*◌, ◌≤◌, eqb, length}
+use Rattle.std.specs.Prelude.{◌≡◌, Bool, ℕ, ◌+◌, ◌*◌, ◌≤◌, eqb, length}
 use Rattle.std.proofs.Math.Path.{refl, sym}
-use Rattle.std.proofs.Common.{◌∙◌, mul-le-mul, eqb-true}
+use Rattle.std.proofs.Common.{◌∙◌}
 use Rattle.std.proofs.Math.Bool.{true}
 use mathlib.Core.List.{List, [], ◌∷◌}
 use Rattle.std.proofs.Math.Nat.{suc-mul}
@@ -11,19 +11,17 @@ use Rattle.laws.specs.Truth.{pick, both}
 use Rattle.laws.specs.TruthLaws.{both_true, both_hold, by_test, picked, clash}
 use Rattle.laws.specs.Search.{every_line, gathered}
 use Rattle.laws.specs.SearchLaws.{every_append, every_gathered}
-use Rattle.laws.specs.Checks.{first_failing, all_pass}
+use Rattle.laws.specs.Checks.{all_pass}
 use Rattle.laws.specs.CheckLaws.{none_fails}
 use Rattle.lists.specs.Sorted.{sum_of}
 use Rattle.codes.specs.declared.Class.{Class}
-use Rattle.codes.specs.Codes.{product_of, is_future_class}
+use Rattle.codes.specs.Codes.{is_future_class}
 use Rattle.series.specs.declared.Nature.{Nature}
 use Rattle.series.specs.declared.Nature.TheVariants.{Future, Call, Put}
-use Rattle.series.specs.declared.Series.{Series}
 use Rattle.series.specs.Natures.{is_future}
-use Rattle.series.specs.Checks.{suits, class_of, good_series}
+use Rattle.series.specs.Checks.{suits, class_of}
 use Rattle.series.specs.CheckLaws.{series_parts}
 use Rattle.levels.specs.declared.Levels.{Levels}
-use Rattle.levels.specs.Levels.{flat}
 use Rattle.levels.specs.Ranges.{AtMost}
 use Rattle.rows.specs.declared.Holding.{Holding}
 use Rattle.rows.specs.declared.Pair.{Pair}
@@ -41,7 +39,7 @@ use Rattle.quotes.specs.Quotes.{on_sheet, quote_of}
 use Rattle.quotes.specs.QuoteLaws.{lot_most, future_most_lot}
 use Rattle.account.specs.declared.Margin.{Margin}
 use Rattle.account.specs.Needed.{charged_lots, needed_by_holding, needed_by_pair, needed_by}
-use Rattle.account.specs.Margin.{times, plus, holding_margin, pair_margin, sum_levels, pays_c, account_margin, margin_checks, margin_number, margin_on}
+use Rattle.account.specs.Margin.{times, holding_margin, pair_margin, sum_levels, pays_c, account_margin, margin_checks, margin_number, margin_on}
 use Rattle.account.specs.RowLaws.{pair_ready_lem, unit_taken}
 use Rattle.account.specs.CallLaws.{margin_by_number}
 

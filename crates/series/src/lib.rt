@@ -10,14 +10,14 @@ use codes::Class;
 use laws::Order;
 
 // A future, a call with its strike or a put with its strike.
-#[derive(Drop)]
+#[derive(Clone, Copy)]
 pub enum Nature {
     Future,
     Call(u32),
     Put(u32),
 }
 
-#[derive(Drop)]
+#[derive(Clone, Copy)]
 pub struct Series {
     pub code: [u8; 3],
     pub date: u32,
@@ -25,14 +25,14 @@ pub struct Series {
 }
 
 // The key of a series as two numbers: code and date, nature and strike.
-#[derive(Drop)]
+#[derive(Clone, Copy)]
 pub struct Halves {
     pub high: u64,
     pub low: u64,
 }
 
 // The two sides on which lots of a series are held.
-#[derive(Drop)]
+#[derive(Clone, Copy)]
 pub enum Side {
     Long,
     Short,

@@ -12,35 +12,35 @@ use amounts::{IndexLine, StockLine};
 use series::{Halves, Nature, Series};
 
 // An amount, or that there is none.
-#[derive(Drop)]
+#[derive(Clone, Copy)]
 pub struct Found {
     pub there: bool,
     pub amount: u32,
 }
 
 // What an F line says.
-#[derive(Drop)]
+#[derive(Clone, Copy)]
 pub struct FutureRow {
     pub code: [u8; 3],
     pub clearing: u32,
 }
 
 // What an O line says.
-#[derive(Drop)]
+#[derive(Clone, Copy)]
 pub struct OptionRow {
     pub code: [u8; 3],
     pub line: IndexLine,
 }
 
 // What an S line says: the stock's two letters, then a 0 byte.
-#[derive(Drop)]
+#[derive(Clone, Copy)]
 pub struct StockRow {
     pub code: [u8; 3],
     pub line: StockLine,
 }
 
 // What a Q line says.
-#[derive(Drop)]
+#[derive(Clone, Copy)]
 pub struct PriceRow {
     pub series: Series,
     pub price: u32,
@@ -48,7 +48,7 @@ pub struct PriceRow {
 
 // What a text reads as. Its number and line, 0 and 0 where it is a sheet; the day; the F, O and S rows, each at its code's place; the
 // Q rows in order with a count.
-#[derive(Drop)]
+#[derive(Clone, Copy)]
 pub struct Sheet {
     pub number: u8,
     pub line: u32,
@@ -61,7 +61,7 @@ pub struct Sheet {
 }
 
 // How far a search among Q rows has come: it is left from low to high, the middle is looked at next; and what was found.
-#[derive(Drop)]
+#[derive(Clone, Copy)]
 struct Search {
     low: usize,
     high: usize,

@@ -16,14 +16,14 @@ use rows::{Book, Holding, Pair};
 use series::{Halves, Series};
 
 // Whether a book is sound, and its holdings with their free lots for their totals; empty rows where it is not.
-#[derive(Drop)]
+#[derive(Clone, Copy)]
 pub struct Checked {
     pub sound: bool,
     pub free: [Holding; 128],
 }
 
 // The same with the keys of the holdings, half by half, and the rows of each pair's legs; zeros where it is not sound.
-#[derive(Drop)]
+#[derive(Clone, Copy)]
 pub struct Walked {
     pub sound: bool,
     pub free: [Holding; 128],
@@ -34,7 +34,7 @@ pub struct Walked {
 }
 
 // Whether the rows are good and in order, and their keys, half by half.
-#[derive(Drop)]
+#[derive(Clone, Copy)]
 struct Keys {
     sound: bool,
     highs: [u64; 128],
@@ -42,7 +42,7 @@ struct Keys {
 }
 
 // Whether a pair may stand and both its legs are held, and the rows of its legs.
-#[derive(Drop)]
+#[derive(Clone, Copy)]
 struct Legs {
     kept: bool,
     first: usize,
@@ -50,7 +50,7 @@ struct Legs {
 }
 
 // Whether every pair may stand, is held and is in order, and the rows of their legs.
-#[derive(Drop)]
+#[derive(Clone, Copy)]
 struct Places {
     sound: bool,
     firsts: [usize; 128],

@@ -1,7 +1,7 @@
 -- The lines of a book both ways: what is printed of a head, a holding and a pair is one line that says it, and the only line that says
 -- it is the printed one.
 use Rattle.std.specs.Prelude.{◌≡◌, refl, true, List, [], ◌∷◌, ◌++◌, ℕ, ◌<◌, ◌≤◌}
-use Rattle.std.proofs.Common.{subst, arith}
+use Rattle.std.proofs.Common.{arith}
 use Rattle.laws.specs.TruthLaws.{both_hold}
 use Rattle.laws.specs.Text.{byte, bytes}
 use Rattle.laws.specs.Bytes.{same_bytes}
@@ -24,7 +24,6 @@ use Rattle.lines.specs.PieceLaws.{lacks, plain, plain_lacks, line_cut, fields_ar
 use Rattle.lines.specs.FieldLaws.{Reads, no_fields, number_reads, account_reads, date_reads, mark_reads, series_reads, series_is, Formed, none, next, number_back, account_back, date_back, mark_back, series_back}
 use Rattle.printed.specs.Printed.{head_text, holding_text, pair_text}
 use Rattle.book_lines.specs.Lines.{head_form, holding_form, pair_form, Line, head, holding, pair, formless, head_from, holding_from, pair_from, line_in, line_from, book_line}
-use Rattle.book_lines.specs.FormLaws.{line_has}
 
 -- a text of one line, which says x
 pub record Says (text : List ℕ) (x : Line) : Type 0 where
@@ -75,39 +74,23 @@ pair_says p e =
     line_says (byte "M") _ refl r (rw (r.form, r.cells, series_is p.first, series_is p.second))
 
 -- Back: what a line says, where it passes its checks, is printed as this line. A formless line says nothing.
-Back : List ℕ → Line → Type 0
+unfoldable pub Back : List ℕ → Line → Type 0
 Back line (head account identity day) = is_identity identity ≡ true → line ++ (lf ∷ []) ≡ head_text account identity day
 Back line (holding h) = good_series h.series ≡ true → line ++ (lf ∷ []) ≡ holding_text h
 Back line (pair p) = good_series p.first ≡ true → good_series p.second ≡ true → line ++ (lf ∷ []) ≡ pair_text p
 Back line formless = Unit
 
 module _ (line : List ℕ) where
-  head_printed : (fs : List (List ℕ)) → line ≡ bytes "A" ++ tabbed fs → Formed head_form fs → Back line (head_from (cells_of head_form fs))
+  pub head_printed : (fs : List (List ℕ)) → line ≡ bytes "A" ++ tabbed fs → Formed head_form fs → Back line (head_from (cells_of head_form fs))
   unfolding Back head_form head_from cells_of head_text line_text
   head_printed fs is (next {f = a} ra (next {f = b} rb (next {f = c} rc none))) i = rw (is, (account_back a ra).0, mark_back b (identity_above _ i), (date_back c rc).0)
 
-  holding_printed : (fs : List (List ℕ)) → line ≡ bytes "H" ++ tabbed fs → Formed holding_form fs → Back line (holding (holding_from (cells_of holding_form fs)))
+  pub holding_printed : (fs : List (List ℕ)) → line ≡ bytes "H" ++ tabbed fs → Formed holding_form fs → Back line (holding (holding_from (cells_of holding_form fs)))
   unfolding Back holding_form holding_from cells_of holding_text line_text
   holding_printed fs is (next {f = a} ra (next {f = b} rb (next {f = c} rc (next {f = d} rd (next {f = e} re (next {f = f} rf none)))))) g =
       rw (is, series_back a b c d rb rd g, (number_back e re).0, (number_back f rf).0)
 
-  pair_printed : (fs : List (List ℕ)) → line ≡ bytes "M" ++ tabbed fs → Formed pair_form fs → Back line (pair (pair_from (cells_of pair_form fs)))
+  pub pair_printed : (fs : List (List ℕ)) → line ≡ bytes "M" ++ tabbed fs → Formed pair_form fs → Back line (pair (pair_from (cells_of pair_form fs)))
   unfolding Back pair_form pair_from cells_of pair_text line_text
   pair_printed fs is (next {f = k} rk (next {f = a} ra (next {f = b} rb (next {f = c} rc (next {f = d} rd (next {f = e} re (next {f = f} rf (next {f = g} rg (next {f = h} rh (next {f = r} rr (next {f = s} rs (next {f = u} ru none)))))))))))) g1 g2 =
       rw (is, (number_back k rk).0, series_back a b c d rb rd g1, series_back e f g h rf rh g2, (number_back r rr).0, (number_back s rs).0, (number_back u ru).0)
-
-  line_back : Back line (book_line line)
-  unfolding Back
-  line_back = line_has (Back line) line head_printed holding_printed pair_printed tt
-
-pub head_back : (line : List ℕ) (account identity day : ℕ) → book_line line ≡ head account identity day → is_identity identity ≡ true → line ++ (lf ∷ []) ≡ head_text account identity day
-unfolding Back
-head_back line account identity day e = subst (Back line) e (line_back line)
-
-pub holding_back : (line : List ℕ) (h : Holding) → book_line line ≡ holding h → good_series h.series ≡ true → line ++ (lf ∷ []) ≡ holding_text h
-unfolding Back
-holding_back line h e = subst (Back line) e (line_back line)
-
-pub pair_back : (line : List ℕ) (p : Pair) → book_line line ≡ pair p → good_series p.first ≡ true → good_series p.second ≡ true → line ++ (lf ∷ []) ≡ pair_text p
-unfolding Back
-pair_back line p e = subst (Back line) e (line_back line)

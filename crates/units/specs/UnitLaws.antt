@@ -22,7 +22,8 @@ use Rattle.amounts.specs.Singles.{worth}
 use Rattle.amounts.specs.Lines.{stock_fits, future_asked, index_asked, stock_asked, terms_asked}
 use Rattle.amounts.specs.LineLaws.{OptionFacts, index_is, stock_is, option_is, future_asked_is, index_asked_is, stock_asked_is, terms_asked_is}
 use Rattle.amounts.specs.Lots.{future_lot, option_lot, fixed_future, stock_future, index_option, stock_option, index_terms, stock_terms}
-use Rattle.amounts.specs.AmountLaws.{worth_most, premium_most, future_most, index_most, stock_most, c_value_most, tenth_most}
+use Rattle.amounts.specs.AmountLaws.{worth_most, premium_most, future_most, c_value_most, tenth_most}
+use Rattle.amounts.proofs.MostLaws.{index_most, stock_most}
 use Rattle.amounts.specs.Limits.{lot_limit, premium_limit, c_limit, lot_fits, terms_fit}
 use Rattle.units.specs.Facts.{LotFacts, UnitFacts}
 use Rattle.units.specs.Units.{debit_margin, credit_margin, time_margin, lower_premium, mixed_at, mixed_margin, future_option_margin, conversion_margin, calendar_margin, products_margin, formula, unit_checks, unit_number, unit_margin}

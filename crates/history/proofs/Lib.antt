@@ -1,0 +1,3 @@
+pub mod HistoryLaws
+pub mod ProgramLaws
+pub mod IdleLaws

@@ -1,0 +1,16 @@
+use Rattle.quotes.proofs.own_line.Goals as goal
+
+pub returns-in-Unknown : goal.returns-in-Unknown
+returns-in-Unknown c = simp c.in-Unknown.is
+
+pub returns-in-ListedFuture : goal.returns-in-ListedFuture
+returns-in-ListedFuture c = simp (c.in-ListedFuture.is, c.clearing_stands.ensures)
+
+pub returns-in-ListedOption : goal.returns-in-ListedOption
+returns-in-ListedOption c = simp (c.in-ListedOption.is, c.index_fits.ensures)
+
+pub returns-in-StockFuture : goal.returns-in-StockFuture
+returns-in-StockFuture c = simp (c.in-StockFuture.is, c.stock_fits.ensures)
+
+pub returns-in-StockOption : goal.returns-in-StockOption
+returns-in-StockOption c = simp (c.in-StockOption.is, c.stock_fits-in-StockOption.ensures)

@@ -1,0 +1,4 @@
+pub mod LineLaws
+pub mod ForthLaws
+pub mod BackLaws
+pub mod TripLaws
