@@ -1,5 +1,5 @@
 -- Laws of the account's margin: with every row quoted once, the sums over rows by their place are the sums of the paper.
-use Rattle.std.specs.Prelude.{◌≡◌, Bool, true, false, List, ℕ, ◌<◌, get_or, length}
+use Rattle.std.specs.Prelude.{◌≡◌, Bool, true, false, List, ℕ, ◌<◌, get_or, length, Option, None, Some}
 use Rattle.std.proofs.Math.Path.{refl, sym, ap}
 use Rattle.std.proofs.Common.{◌∙◌, arith, get_or-take}
 use Rattle.std.proofs.Math.ListN.{length-map, get_or-append}
@@ -24,10 +24,9 @@ use Rattle.sound.specs.Walk.{no_row, no_pair, Walkable}
 use Rattle.quotes.specs.declared.Quote.{Quote}
 use Rattle.sheets.specs.View.{View}
 use Rattle.quotes.specs.Quotes.{no_quote, on_sheet, quote_of}
-use Rattle.account.specs.declared.Part.{Part}
 use Rattle.account.specs.Needed.{needed_by_holding, needed_by_pair, needed_by}
 use Rattle.account.specs.Margin.{plus, holding_margin, pair_margin, sum_levels, pays_c, account_margin}
-use Rattle.account.specs.Walk.{QuotesAre, all_below, sum_below, part_of, row_limit, pair_ready, ready_at, comes_at, pair_ready_at, pair_comes_at, PairStands}
+use Rattle.account.specs.Walk.{Part, part_as, QuotesAre, all_below, sum_below, part_of, row_limit, pair_ready, ready_at, comes_at, pair_ready_at, pair_comes_at, PairStands}
 use Rattle.account.specs.SumLaws.{one_fails, all_same, sum_same, sum_most, every_below, sum_below_lem}
 use Rattle.account.specs.RowLaws.{holding_ready_lem, holding_most, holding_comes_lem, pair_ready_lem, pair_comes_lem, pair_most}
 use Rattle.account.specs.LegLaws.{legs_found_lem}
@@ -40,6 +39,17 @@ part_ready t l e = ap (λ (r : Part). r.ready) e ∙ by_test (λ (b : Bool). (pa
 pub part_levels : (t : Bool) (l : Levels) {r : Part} → r ≡ part_of t l → t ≡ true → r.levels ≡ l
 unfolding part_of
 part_levels t l e h = ap (λ (r : Part). r.levels) e ∙ rw h refl
+
+-- What an answer that is there says, and one that is not.
+pub part_there : (t : Bool) (l : Levels) {o : Option Levels} {m : Levels} → part_as o ≡ part_of t l → o ≡ Some m → (t ≡ true) × (m ≡ l)
+part_there t l {o} {m} h e =
+    let is : part_as (Some m) ≡ part_of t l = sym (ap part_as e) ∙ h in
+    let r = part_ready t l is in
+    (sym r, part_levels t l is (sym r))
+
+pub part_gone : (t : Bool) (l : Levels) (o : Option Levels) → part_as o ≡ part_of t l → ((m : Levels) → o ≡ Some m → ⊥) → t ≡ false
+part_gone t l (Some m) h n = absurd (n m refl)
+part_gone t l None h n = sym (part_ready t l h)
 
 -- All that a test holds of: at every place.
 below_at : (test : ℕ → Bool) (i n : ℕ) → all_below test n ≡ true → i < n → test i ≡ true

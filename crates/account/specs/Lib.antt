@@ -8,3 +8,4 @@ pub mod LegLaws
 pub mod AccountLaws
 pub mod CallLaws
 pub mod TextLaws
+pub mod MarginLaws

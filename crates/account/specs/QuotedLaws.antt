@@ -1,5 +1,5 @@
 -- Laws of the rows of a book, each quoted once: what the sheet's fields say of a row's series is its quote.
-use Rattle.std.specs.Prelude.{◌≡◌, List, [], ◌∷◌, ℕ, ◌+◌, ◌<◌, ◌≤◌, min, get_or, length, take, set, replicate}
+use Rattle.std.specs.Prelude.{◌≡◌, List, [], ◌∷◌, ℕ, ◌+◌, ◌<◌, ◌≤◌, min, get_or, length, take, set, replicate, Option}
 use Rattle.std.proofs.Math.Path.{refl, ap}
 use Rattle.std.proofs.Common.{◌∙◌, arith, length-set, get_or-set_same, get_or-set_other}
 use Rattle.std.proofs.Math.Decide.{dec_lt}
@@ -11,10 +11,8 @@ use Rattle.series.specs.declared.Series.{Series}
 use Rattle.amounts.specs.declared.IndexLine.{IndexLine}
 use Rattle.amounts.specs.declared.StockLine.{StockLine}
 use Rattle.rows.specs.declared.Holding.{Holding}
-use Rattle.sheets.specs.declared.Found.{Found}
-use Rattle.sheets.specs.declared.Sheet.{Sheet}
+use Rattle.sheets.specs.Sheet.{Sheet, future_place, option_place, stock_place, nearest, row_at, price_among, prices_at, clearing_on, index_on, stock_on, price_on}
 use Rattle.sheets.specs.Rows.{nothing, no_index, no_stock}
-use Rattle.sheets.specs.Sheet.{future_place, option_place, stock_place, nearest, row_at, price_among, prices_at, clearing_on, index_on, stock_on, price_on}
 use Rattle.sheets.specs.SeekLaws.{filled_says}
 use Rattle.sheets.specs.TableLaws.{row_inside}
 use Rattle.sound.specs.Walk.{no_row, Keyed}
@@ -25,7 +23,7 @@ use Rattle.quotes.specs.QuoteLaws.{quote_said}
 use Rattle.account.specs.Walk.{Priced, QuotesAre}
 
 -- What the lookups of a series find, put together, is its quote.
-module _ (sheet : Sheet) (s : Series) {p : Product} {clearing price : Found} {index : IndexLine} {stock : StockLine} {at k : ℕ} {q : Quote} where
+module _ (sheet : Sheet) (s : Series) {p : Product} {clearing price : Option ℕ} {index : IndexLine} {stock : StockLine} {at k : ℕ} {q : Quote} where
   pub row_quoted : length sheet.stocks ≡ 676 → p ≡ product_of s.code → clearing ≡ get_or sheet.futures (future_place p.parent) nothing → index ≡ get_or sheet.options (option_place s.code) no_index → at ≡ stock_place p.parent → k ≡ nearest at → stock ≡ row_at at (get_or sheet.stocks k no_stock) → price ≡ (sheet_view sheet).price s → q ≡ quote_as (saying clearing index stock price) p s → q ≡ quote_of (sheet_view sheet) s
   unfolding sheet_view quote_of clearing_on index_on stock_on
   row_quoted long hp hc hi ha hk hs hv hq =
@@ -34,7 +32,7 @@ module _ (sheet : Sheet) (s : Series) {p : Product} {clearing price : Found} {in
       hq ∙ said ∙ ap (λ (o : Product). quote_as (sheet_view sheet) o s) hp
 
 -- What was found for the keys of the rows are their prices.
-pub rows_priced : (sheet : Sheet) (rows : List Holding) (held : ℕ) {highs lows : List ℕ} {prices : List Found} → Keyed no_row rows held highs lows → held ≤ 128 → prices ≡ prices_at sheet.prices sheet.quoted highs lows held → Priced (sheet_view sheet) rows held prices
+pub rows_priced : (sheet : Sheet) (rows : List Holding) (held : ℕ) {highs lows : List ℕ} {prices : List (Option ℕ)} → Keyed no_row rows held highs lows → held ≤ 128 → prices ≡ prices_at sheet.prices sheet.quoted highs lows held → Priced (sheet_view sheet) rows held prices
 unfolding sheet_view price_on prices_at
 rows_priced sheet rows held {highs} {lows} keyed few is =
     let all : min held 128 ≡ held = omega arith in

@@ -1,5 +1,5 @@
 -- What the parts of the account's margin ask and answer: rows that were quoted once, and sums over rows by their place.
-use Rattle.std.specs.Prelude.{◌≡◌, Bool, true, false, List, ℕ, zero, suc, ◌<◌, eqb, get_or, length}
+use Rattle.std.specs.Prelude.{◌≡◌, Bool, true, false, List, ℕ, zero, suc, ◌<◌, eqb, get_or, length, Option, None, Some}
 use Rattle.laws.specs.Truth.{pick, both}
 use Rattle.laws.specs.Kinds.{by_kind}
 use Rattle.levels.specs.declared.Levels.{Levels}
@@ -8,18 +8,16 @@ use Rattle.levels.specs.Ranges.{AtMost}
 use Rattle.units.specs.Units.{unit_margin}
 use Rattle.rows.specs.declared.Holding.{Holding}
 use Rattle.rows.specs.declared.Pair.{Pair}
-use Rattle.sheets.specs.declared.Found.{Found}
 use Rattle.sheets.specs.Rows.{nothing}
 use Rattle.sound.specs.Walk.{no_row, no_pair}
 use Rattle.quotes.specs.declared.Quote.{Quote}
 use Rattle.sheets.specs.View.{View}
 use Rattle.quotes.specs.Quotes.{no_quote, quote_of}
-use Rattle.account.specs.declared.Part.{Part}
 use Rattle.account.specs.Needed.{charged_lots}
 use Rattle.account.specs.Margin.{times, plus}
 
 -- The prices of the rows' series, each found once; and their quotes.
-pub record Priced (v : View) (rows : List Holding) (n : ℕ) (prices : List Found) : Type 0 where
+pub record Priced (v : View) (rows : List Holding) (n : ℕ) (prices : List (Option ℕ)) : Type 0 where
   pub prices_are : (i : ℕ) → i < n → get_or prices i nothing ≡ v.price (get_or rows i no_row).series
 
 pub record QuotesAre (v : View) (rows : List Holding) (n : ℕ) (quotes : List Quote) : Type 0 where
@@ -35,7 +33,16 @@ unfoldable pub sum_below : (ℕ → Levels) → ℕ → Levels
 sum_below amount zero = flat 0
 sum_below amount (suc n) = plus (sum_below amount n) (amount n)
 
+-- The sum over some rows, or that a line that they need is missing.
+pub record Part : Type 0 where
+  pub ready : Bool
+  pub levels : Levels
+
 -- a sum, or that a needed line is missing
+abbrev pub part_as : Option Levels → Part
+part_as (Some levels) = record { ready = true; levels = levels }
+part_as None = record { ready = false; levels = flat 0 }
+
 unfoldable pub part_of : Bool → Levels → Part
 part_of ready levels = pick ready (record { ready = true; levels = levels }) (record { ready = false; levels = flat 0 })
 

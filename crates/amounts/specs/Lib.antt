@@ -1,4 +1,5 @@
 pub mod Lines
+pub mod ValueLimits
 pub mod LineLaws
 pub mod Singles
 pub mod Lots

@@ -7,6 +7,7 @@ use Rattle.levels.specs.RangeLaws.{levels_are}
 use Rattle.amounts.specs.declared.IndexLine.{IndexLine}
 use Rattle.amounts.specs.declared.StockLine.{StockLine}
 use Rattle.amounts.specs.Lines.{index_fits, stock_fits, option_fits, future_asked, index_asked, stock_asked, terms_asked}
+use Rattle.amounts.specs.ValueLimits.{ValueFits}
 
 pub record IndexFacts (o : IndexLine) : Type 0 where
   pub multiplier_most : o.multiplier ≤ 20000
@@ -79,3 +80,10 @@ stock_asked_is s strike price e = both_true _ _ e
 pub terms_asked_is : (o : IndexLine) (clearing : ℕ) → terms_asked o clearing ≡ true → (index_fits o ≡ true) × (clearing_fits clearing ≡ true)
 unfolding terms_asked
 terms_asked_is o clearing e = both_true _ _ e
+
+-- What a stock's line says keeps its values to the limits.
+pub value_fits : (s : StockLine) → stock_fits s ≡ true → ValueFits s.price s.shares
+value_fits s e = let f = stock_is s e in record { price_most = f.price_most; multiplier_most = f.shares_most }
+
+pub c_fits : (s : StockLine) → stock_fits s ≡ true → AtMost 100000 s.c
+c_fits s e = (stock_is s e).c_most

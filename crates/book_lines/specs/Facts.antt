@@ -4,12 +4,16 @@ use Rattle.std.specs.Prelude.{Bool, true, false, not, List, [], ◌∷◌, ◌++
 use Rattle.laws.specs.Truth.{pick, both}
 use Rattle.laws.specs.Bytes.{same_bytes}
 use Rattle.laws.specs.Text.{byte, bytes}
-use Rattle.laws.specs.Checks.{first_failing}
+use Rattle.laws.specs.Checks.{first_failing, or_else}
 use Rattle.lists.specs.Sorted.{after}
 use Rattle.series.specs.declared.Nature.TheVariants.{Future}
+use Rattle.series.specs.declared.Series as series
+use Rattle.series.specs.Checks.{series_number}
+use Rattle.pairing.specs.Rules.{pair_number}
 use Rattle.rows.specs.declared.Holding.{Holding}
 use Rattle.rows.specs.declared.Pair.{Pair}
 use Rattle.rows.specs.Rows.{holding_rank, pair_rank, empty_series}
+use Rattle.rules.specs.Rules.{counts_fit}
 use Rattle.lines.specs.declared.Asked.{Asked}
 use Rattle.lines.specs.declared.Asked.TheVariants as kind
 use Rattle.lines.specs.declared.Field.{Field}
@@ -141,6 +145,21 @@ worse a b =
     pick (both (not (eqb a 4)) (not (eqb b 4)))
     (pick (both (not (eqb a 5)) (not (eqb b 5))) (pick (both (not (eqb a 2)) (not (eqb b 2))) 0 2) 5)
     4
+
+-- the number of two series
+unfoldable pub both_number : series.Series → series.Series → ℕ
+both_number a b = worse (series_number a) (series_number b)
+
+-- the number of an M line, check by check: `first` where no line is before it, `in_order` where it stands in its order,
+-- `room` where there is room for its row, `free` where its legs find their lots free
+abbrev pub pair_number_by : Bool → Bool → Bool → Bool → Pair → ℕ
+pair_number_by first in_order room free p =
+    pick (not first)
+    (or_else (both_number p.first p.second)
+    (pick (counts_fit p.r1 p.r2 p.units)
+    (or_else (pair_number p.kind p.first p.second p.r1 p.r2) (pick in_order (pick room (pick free 0 9) 11) 3))
+    6))
+    1
 
 -- the account that a first line says
 abbrev pub account_of : Line → ℕ

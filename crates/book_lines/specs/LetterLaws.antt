@@ -1,10 +1,13 @@
 -- Laws of a line's letter: the three letters of a book, and what a line of each says by its items.
-use Rattle.std.specs.Prelude.{◌≡◌, refl, Bool, List, ℕ, eqb}
+use Rattle.std.specs.Prelude.{◌≡◌, refl, Bool, true, false, List, [], ◌∷◌, ℕ, suc, eqb, length, get_or}
+use Rattle.std.proofs.Common.{arith}
 use borrow.Author.Tests.{ne_eqb, eqb-true, eqb-false}
-use Rattle.laws.specs.TruthLaws.{by_test}
+use Rattle.laws.specs.Truth.{pick, both}
+use Rattle.laws.specs.TruthLaws.{by_test, both_end}
+use Rattle.laws.specs.Bytes.{same_bytes}
 use Rattle.book_lines.specs.declared.Item.{Item}
 use Rattle.book_lines.specs.Lines.{holding, pair, formless}
-use Rattle.book_lines.specs.Facts.{head_of, holding_of, pair_of, line_of}
+use Rattle.book_lines.specs.Facts.{by_letter, letter_in, head_of, holding_of, pair_of, line_of}
 
 -- The three letters of a book, and any other.
 module _ (letter : ℕ) (P : Type 0) where
@@ -44,3 +47,14 @@ module _ {letter : ℕ} (items : List Item) where
   pub says_nothing : (letter ≡ 65 → ⊥) → (letter ≡ 72 → ⊥) → (letter ≡ 77 → ⊥) → line_of letter items ≡ formless
   unfolding line_of
   says_nothing x y z = rw (ne_eqb letter 65 x, ne_eqb letter 72 y, ne_eqb letter 77 z)
+
+-- A line's letter is its one byte.
+never : (b : Bool) → both b false ≡ false
+never true = refl
+never false = refl
+
+pub letter_byte : (t : List ℕ) → letter_in t ≡ pick (eqb (length t) 1) (by_letter (get_or t 0 0) 65 72 77 0) 0
+unfolding letter_in same_bytes
+letter_byte [] = refl
+letter_byte (a ∷ []) = simp both_end
+letter_byte (a ∷ b ∷ t) = simp (never, ne_eqb (suc (suc (length t))) 1 (λ (e : suc (suc (length t)) ≡ 1). omega arith))

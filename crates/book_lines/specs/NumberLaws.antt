@@ -4,14 +4,15 @@ use Rattle.std.proofs.Math.Path.{ap}
 use Rattle.std.proofs.Common.{sym, ◌∙◌}
 use Rattle.laws.specs.Truth.{pick, both}
 use Rattle.laws.specs.TruthLaws.{both_true}
-use Rattle.laws.specs.Checks.{Check, ◌unless◌, first_failing, numbered, or_else}
+use Rattle.laws.specs.Checks.{Check, ◌unless◌, first_failing, all_pass, numbered, or_else}
 use Rattle.laws.specs.CheckLaws.{first_of_two}
 use Rattle.lists.specs.Sorted.{after}
 use Rattle.dates.specs.Calendar.{is_day}
 use Rattle.codes.specs.Codes.{known}
+use Rattle.series.specs.declared.Series.{Series}
 use Rattle.series.specs.Checks.{suits, class_of, series_checks, series_number, good_series}
 use Rattle.series.specs.CheckLaws.{series_whole}
-use Rattle.pairing.specs.Rules.{parts_of, pair_checks, pair_number}
+use Rattle.pairing.specs.Rules.{parts_of, pair_checks, pair_number, may_stand}
 use Rattle.pairing.specs.PairLaws.{pairs_numbered}
 use Rattle.rows.specs.declared.Holding.{Holding}
 use Rattle.rows.specs.declared.Pair.{Pair}
@@ -19,7 +20,7 @@ use Rattle.rows.specs.Rows.{holding_rank, pair_rank}
 use Rattle.rules.specs.Rules.{counts_fit, good_lots}
 use Rattle.book_lines.specs.declared.Item.{Item}
 use Rattle.book_lines.specs.Lines.{Line, head, holding, pair, formless, checks_by}
-use Rattle.book_lines.specs.Facts.{item, holding_of, pair_of, line_of, order_behind, room_behind, number_behind, worse}
+use Rattle.book_lines.specs.Facts.{item, holding_of, pair_of, line_of, order_behind, room_behind, number_behind, worse, both_number, pair_number_by}
 use Rattle.book_lines.specs.LetterLaws.{by_letters, says_head, says_holding, says_pair, says_nothing}
 
 -- a series' number by its three tests
@@ -49,6 +50,21 @@ two_series true true true true false s' rest = refl
 two_series true true true true true false rest = refl
 two_series true true true true true true rest = refl
 
+-- A pair that may not stand is refused by 10, whatever it misses.
+by_ten : (k c n d s r : Bool) → pick {A = ℕ} (both k (both c (both n (both d (both s (both r true)))))) 0 10 ≡ pick k (pick c (pick n (pick d (pick s (pick r 0 10) 10) 10) 10) 10) 10
+by_ten false c n d s r = refl
+by_ten true false n d s r = refl
+by_ten true true false d s r = refl
+by_ten true true true false s r = refl
+by_ten true true true true false r = refl
+by_ten true true true true true false = refl
+by_ten true true true true true true = refl
+
+pub allowed_number : (kind : ℕ) (a b : Series) (r1 r2 : ℕ) → pick {A = ℕ} (may_stand kind a b r1 r2) 0 10 ≡ pair_number kind a b r1 r2
+unfolding may_stand pair_number pair_checks first_failing all_pass
+allowed_number kind a b r1 r2 =
+    let p = parts_of kind a b r1 r2 in by_ten p.kind p.codes p.natures p.dates p.strikes p.ratio
+
 -- Of a line of each letter.
 module _ (first in_order room free : Bool) where
   pub holding_number_is : (h : Holding) → pick (not first) (or_else (series_number h.series) (pick (good_lots h) (pick in_order (pick room 0 8) 3) 2)) 1 ≡ first_failing (checks_by first in_order room free (holding h))
@@ -67,6 +83,10 @@ module _ (first in_order room free : Bool) where
       (two_series (known (class_of p.first)) (is_day p.first.date) (suits (class_of p.first) p.first.nature) (known (class_of p.second)) (is_day p.second.date) (suits (class_of p.second) p.second.nature) _
       ∙ ap (λ (n : ℕ). pick (both (known (class_of p.first)) (known (class_of p.second))) (pick (both (is_day p.first.date) (is_day p.second.date)) (pick (both (suits (class_of p.first) p.first.nature) (suits (class_of p.second) p.second.nature)) (pick (counts_fit p.r1 p.r2 p.units) n 6) 2) 5) 4)
       (sym (first_of_two (pair_checks (parts_of p.kind p.first p.second p.r1 p.r2)) last_checks (pairs_numbered (parts_of p.kind p.first p.second p.r1 p.r2)))))
+
+  pub pair_checks_are : (p : Pair) → pair_number_by first in_order room free p ≡ first_failing (checks_by first in_order room free (pair p))
+  unfolding both_number
+  pair_checks_are p = pair_number_is p
 
 -- So the number of a line that letter and items say is that of its letter's line.
 module _ {letter : ℕ} (items : List Item) (first : Bool) (last : Holding) (held : ℕ) (newest : Pair) (paired : ℕ) (free : Bool) where

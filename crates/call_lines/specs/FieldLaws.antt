@@ -18,10 +18,8 @@ use Rattle.lines.specs.BehindLaws.{joined, chain_more}
 use Rattle.book_lines.specs.Lines.{head_form}
 use Rattle.book_lines.specs.Facts.{item_behind, items_behind, pair_of}
 use Rattle.book_lines.specs.LineLaws.{Read, pair_read}
-use Rattle.call_lines.specs.declared.LotsLine.{LotsLine}
-use Rattle.call_lines.specs.declared.UnitsLine.{UnitsLine}
 use Rattle.call_lines.specs.Lines.{lots_form, day_form}
-use Rattle.call_lines.specs.Facts.{formed, is_side, side_of, make_said, make_behind, lots_said, lots_behind, units_behind, day_behind}
+use Rattle.call_lines.specs.Facts.{LotsLine, UnitsLine, formed, is_side, side_of, make_said, make_behind, lots_said, lots_behind, units_behind, day_behind}
 
 module _ (t : List ℕ) (at : ℕ) where
   pub make_read : {a i d : Field} {ends : Bool} → a ≡ field_behind Account t at → i ≡ field_behind Mark t a.stop → d ≡ field_behind Date t i.stop → ends ≡ eqb (get_or t d.stop 0) lf → record { right = both (both a.cell.right (both i.cell.right d.cell.right)) ends; account = a.cell.number; identity = i.cell.number; day = d.cell.number } ≡ make_behind t at

@@ -1,5 +1,5 @@
 -- Laws of one call line: what its fields say as they are read, one behind the other, is what the line says, and how a book answers it.
-use Rattle.std.specs.Prelude.{◌≡◌, Bool, List, [], ◌∷◌, ℕ, ◌-◌, ◌≤◌, ◌<◌, eqb, ltb, get_or, take, drop, replicate}
+use Rattle.std.specs.Prelude.{◌≡◌, Bool, List, [], ◌∷◌, ℕ, ◌-◌, ◌≤◌, ◌<◌, eqb, ltb, get_or, take, drop, replicate, Option, Some, None, is_some, unwrap_or}
 use Rattle.std.proofs.Math.Path.{refl, ap}
 use Rattle.std.proofs.Common.{sym, ◌∙◌, arith, lt-ltb, le-ltb, eqb-true}
 use Rattle.std.proofs.Math.Logic.{⊎_elim}
@@ -9,7 +9,7 @@ use Rattle.std.proofs.lemmas.Bool.{eqb-false}
 use Rattle.std.proofs.Math.ListN.{length, get_or-eq_default}
 use Rattle.std.proofs.lemmas.List.{length-replicate}
 use Rattle.laws.specs.Truth.{pick, both, either}
-use Rattle.laws.specs.TruthLaws.{by_test, both_true, either_true, within_true, false_unless}
+use Rattle.laws.specs.TruthLaws.{by_test, both_true, either_true, within_true, false_unless, clash}
 use Rattle.series.specs.declared.Side.{Side}
 use Rattle.series.specs.declared.Side.TheVariants.{Long, Short}
 use Rattle.rows.specs.declared.Book.{Book}
@@ -17,7 +17,7 @@ use Rattle.dates.specs.Calendar.{is_day}
 use Rattle.rows.specs.Book.{empty_book, no_book}
 use Rattle.rules.specs.Rules.{account_fits, is_identity}
 use Rattle.laws.specs.Checks.{first_failing, all_pass}
-use Rattle.calls.specs.declared.Outcome.{Outcome}
+use Rattle.calls.specs.Outcome.{Outcome}
 use Rattle.calls.specs.Calls.{outcome, answered, make_checks, make_answer, open_answer, close_answer, pair_answer, split_answer, turn_answer}
 use Rattle.history.specs.History.{BookCall, step}
 use Rattle.lines.specs.declared.Asked.{Asked}
@@ -31,13 +31,9 @@ use Rattle.lines.specs.BehindLaws.{Unformed, behind_off, chain_done, chain_wrong
 use Rattle.book_lines.specs.Lines.{head_form, pair_form}
 use Rattle.call_lines.specs.declared.Name.{Name}
 use Rattle.call_lines.specs.declared.Name.TheVariants as name
-use Rattle.call_lines.specs.declared.MakeLine.{MakeLine}
-use Rattle.call_lines.specs.declared.LotsLine.{LotsLine}
-use Rattle.call_lines.specs.declared.UnitsLine.{UnitsLine}
-use Rattle.call_lines.specs.declared.DayLine.{DayLine}
 use Rattle.call_lines.specs.Lines.{Line, call, formless, name_in, lots_form, day_form, form_of, sided, lots_in, said_by, line_by, line_from, call_line}
 use Rattle.call_lines.specs.Work.{answer_to}
-use Rattle.call_lines.specs.Facts.{cells_behind, formed, is_side, side_of, make_said, make_behind, lots_said, lots_behind, units_behind, day_behind, line_behind, said_at}
+use Rattle.call_lines.specs.Facts.{MakeLine, LotsLine, UnitsLine, DayLine, cells_behind, formed, is_side, side_of, make_said, make_behind, lots_said, lots_behind, units_behind, day_behind, line_behind, said_at}
 
 -- No form has more than twelve fields.
 form_few : (n : Name) → length (form_of n) ≤ 12
@@ -160,6 +156,21 @@ byte_enough account mark day = go (dec_lt mark 256)
     go : Dec (mark < 256) → make_answer account (pick (ltb mark 256) mark 0) day ≡ make_answer account mark day
     go (yes h) = rw (lt-ltb mark 256 h)
     go (no h) = let le : 256 ≤ mark = omega arith in rw (le-ltb mark 256 le) (no_code_lem account 0 mark day (far 0 (λ k. omega arith)) (far mark (λ k. omega arith)))
+
+-- What has the form stands there.
+pub there : {A : Type 0} (f : Bool) (a : A) {x : Option A} → x ≡ pick f (Some a) None → is_some x ≡ f
+there true a e = ap is_some e
+there false a e = ap is_some e
+
+-- What has the form is told and answered as it says; what has not is told by nothing, and answered by 1.
+module _ (b : Book) {A : Type 0} {o : Outcome} where
+  pub told : (f : Bool) (a : A) {m : A} (by : A → Outcome) → Some m ≡ pick f (Some a) None → o ≡ by m → o ≡ pick f (by a) (outcome 1 b)
+  told true a by e h = h ∙ ap (λ (x : Option A). by (unwrap_or x a)) e
+  told false a by e h = absurd (clash refl (ap is_some e))
+
+  pub untold : (f : Bool) (a : A) (p : Outcome) → None ≡ pick f (Some a) None → o ≡ outcome 1 b → o ≡ pick f p (outcome 1 b)
+  untold true a p e h = absurd (clash (ap is_some e) refl)
+  untold false a p e h = h
 
 -- The answer to the line at `at`, by its name.
 module _ (first : Bool) (b : Book) (t : List ℕ) (at : ℕ) {stop : ℕ} {n : Name} (is : stop ≡ stop_of t at) (named : n ≡ name_in (take (stop - at) (drop at t))) {o : Outcome} where

@@ -4,7 +4,7 @@ use Rattle.std.specs.Prelude.{Bool, true, false, List, [], ◌∷◌, ℕ, leb, 
 use Rattle.laws.specs.Truth.{pick}
 use Rattle.lists.specs.Places.{full}
 use Rattle.rows.specs.declared.Book.{Book}
-use Rattle.calls.specs.declared.Outcome.{Outcome}
+use Rattle.calls.specs.Outcome.{Outcome}
 use Rattle.calls.specs.Calls.{outcome, make_answer}
 use Rattle.history.specs.History.{step}
 use Rattle.lines.specs.Pieces.{lf, Pieces, one, more, split_on}

@@ -17,7 +17,7 @@ use Rattle.series.specs.declared.Side.{Side}
 use Rattle.series.specs.declared.Side.TheVariants.{Long, Short}
 use Rattle.lists.specs.Places.{full}
 use Rattle.rows.specs.declared.Book.{Book}
-use Rattle.calls.specs.declared.Outcome.{Outcome}
+use Rattle.calls.specs.Outcome.{Outcome}
 use Rattle.history.specs.History.{BookCall}
 use Rattle.lines.specs.declared.Cell.{Cell}
 use Rattle.lines.specs.Pieces.{lf, split_on, next_of, stop_of}
@@ -26,10 +26,9 @@ use Rattle.lines.specs.StopLaws.{line_at}
 use Rattle.book_lines.specs.Lines.{head_form}
 use Rattle.call_lines.specs.declared.Name.{Name}
 use Rattle.call_lines.specs.declared.Name.TheVariants as name
-use Rattle.call_lines.specs.declared.MakeLine.{MakeLine}
 use Rattle.call_lines.specs.Lines.{call, formless, figure, name_in, form_of, sided, lots_in, said_by}
 use Rattle.call_lines.specs.Work.{answer_to, Answers, after, answers_to, answers_in, worked_as, worked, is_make, makes_book}
-use Rattle.call_lines.specs.Facts.{cells_behind, formed, make_said, make_behind, line_behind, said_at}
+use Rattle.call_lines.specs.Facts.{MakeLine, cells_behind, formed, make_said, make_behind, line_behind, said_at}
 use Rattle.call_lines.specs.LineLaws.{name_ends, unended, said_behind}
 
 -- The answers to the lines from `at` on: the first line's, then those to the lines behind it.
@@ -188,3 +187,15 @@ module _ (t : List ℕ) {stop : ℕ} {n : Name} (is : stop ≡ stop_of t 0) (nam
   pub other_first : {k : Name} → n ≡ k → named_make k ≡ false → false ≡ makes_book t
   unfolding line_behind
   other_first {k} e other = sym (no_make k (formed (form_of k) t stop) (cells_behind (form_of k) t stop) other) ∙ said_first k e
+
+  pub no_make_first : (n ≡ name.Make → ⊥) → false ≡ makes_book t
+  no_make_first not = go n refl
+    where
+      go : (k : Name) → n ≡ k → false ≡ makes_book t
+      go name.Nothing e = other_first {k = name.Nothing} e refl
+      go name.Make e = absurd (not e)
+      go name.Open e = other_first {k = name.Open} e refl
+      go name.Close e = other_first {k = name.Close} e refl
+      go name.Pair e = other_first {k = name.Pair} e refl
+      go name.Split e = other_first {k = name.Split} e refl
+      go name.Turn e = other_first {k = name.Turn} e refl

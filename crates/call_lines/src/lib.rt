@@ -3,19 +3,20 @@
 
 ghost use Rattle.std.specs.Prelude.{◌≡◌, ◌+◌, ◌<◌, ◌≤◌, min, eqb, ltb, get_or, length};
 ghost use Rattle.laws.specs.Truth.{pick};
+ghost use Rattle.laws.specs.Refusals.{number_in};
 ghost use Rattle.lines.specs.Pieces.{lf, next_of};
 ghost use Rattle.calls.specs.Calls.{outcome, make_answer, open_answer, close_answer, pair_answer, split_answer, turn_answer};
 ghost use Rattle.call_lines.specs.Lines.{name_in};
 ghost use Rattle.call_lines.specs.Work.{answer_to, worked, makes_book};
-ghost use Rattle.call_lines.specs.Facts.{is_side, side_of, make_behind, lots_behind, units_behind, day_behind, said_at};
+ghost use Rattle.call_lines.specs.Facts.{is_side, side_of, make_behind, lots_behind, units_behind, day_behind, make_told, lots_told, units_told, day_told, said_at};
 
-use calls::Outcome;
+use laws::Refusal;
 use lines::Asked;
 use rows::{Book, Pair};
 use series::{Series, Side};
 
 // The name of a call.
-#[derive(Clone, Copy)]
+#[derive(Clone, Copy, Debug, PartialEq, Eq)]
 enum Name {
     Nothing,
     Make,
@@ -26,33 +27,19 @@ enum Name {
     Turn,
 }
 
-// What stands behind each name: whether it has the form, and what it says.
+// What stands behind a name: that of a make, and that of a call on lots.
 #[derive(Clone, Copy)]
-struct MakeLine {
-    right: bool,
+struct Make {
     account: u32,
     identity: u32,
     day: u32,
 }
 
 #[derive(Clone, Copy)]
-struct LotsLine {
-    right: bool,
+struct Lots {
     series: Series,
     side: Side,
     lots: u32,
-}
-
-#[derive(Clone, Copy)]
-struct UnitsLine {
-    right: bool,
-    pair: Pair,
-}
-
-#[derive(Clone, Copy)]
-struct DayLine {
-    right: bool,
-    day: u32,
 }
 
 // What a text of call lines comes to: 0, or 2 where it is too long; how many lines there are; the book; and the number that each line is answered by.
@@ -64,6 +51,7 @@ pub struct Worked {
     pub numbers: [u8; 65536],
 }
 
+#[tactic(auto, unfolding(crate::specs::Lines::name_in))]
 fn name_of(t: &[u8]) -> Name
     ensures { result ≡ name_in t.now }
 {
@@ -92,69 +80,63 @@ fn name_of(t: &[u8]) -> Name
 fn ends_at(t: &[u8], i: usize) -> bool
     ensures { result ≡ eqb (get_or t.now i 0) lf }
 {
-    if t.len() <= i {
-        return false;
-    }
-    t[i] == b'\n'
+    i < t.len() && t[i] == b'\n'
 }
 
+#[tactic(auto, unfolding(crate::specs::Facts::is_side))]
 fn is_side(mark: u32) -> bool
     ensures { result ≡ is_side mark }
 {
-    laws::or(mark == b'L' as u32, mark == b'S' as u32)
+    mark == u32::from(b'L') || mark == u32::from(b'S')
 }
 
+#[tactic(auto, unfolding(crate::specs::Facts::side_of))]
 fn side_of(mark: u32) -> Side
     ensures { result ≡ side_of mark }
 {
-    if mark == b'L' as u32 {
-        return Side::Long;
+    if mark == u32::from(b'L') {
+        Side::Long
+    } else {
+        Side::Short
     }
-    Side::Short
 }
 
-// The fields behind a name that ends at `at`: `account identity day`.
-fn make_behind(t: &[u8], at: usize) -> MakeLine
-    ensures { result ≡ make_behind t.now at }
+// The fields behind a name that ends at `at`, where they have the form: `account identity day`.
+#[tactic(auto, unfolding(crate::specs::Facts::make_behind, crate::specs::Facts::make_said, crate::specs::Facts::formed, lines::specs::Behind::chain_behind, book_lines::specs::Lines::head_form))]
+fn make_behind(t: &[u8], at: usize) -> Option<Make>
+    ensures { result ≡ make_told (make_behind t.now at) }
 {
     let account = lines::field_behind(Asked::Account, t, at);
     let identity = lines::field_behind(Asked::Mark, t, account.stop);
     let day = lines::field_behind(Asked::Date, t, identity.stop);
-    let a = account.cell;
-    let i = identity.cell;
-    let d = day.cell;
-    let right = laws::and(a.right, laws::and(i.right, d.right));
-    MakeLine {
-        right: laws::and(right, ends_at(t, day.stop)),
-        account: a.number,
-        identity: i.number,
-        day: d.number,
-    }
+    let formed = account.cell.right && identity.cell.right && day.cell.right;
+    (formed && ends_at(t, day.stop)).then_some(Make {
+        account: account.cell.number,
+        identity: identity.cell.number,
+        day: day.cell.number,
+    })
 }
 
 // `SERIES L|S lots`.
-fn lots_behind(t: &[u8], at: usize) -> LotsLine
-    ensures { result ≡ lots_behind t.now at }
+#[tactic(auto, unfolding(crate::specs::Facts::lots_behind, crate::specs::Facts::lots_said, crate::specs::Facts::formed, crate::specs::Lines::lots_form, lines::specs::Behind::chain_behind, lines::specs::Behind::series_form, lines::specs::Behind::written_in))]
+fn lots_behind(t: &[u8], at: usize) -> Option<Lots>
+    ensures { result ≡ lots_told (lots_behind t.now at) }
 {
     let w = lines::series_behind(t, at);
     let mark = lines::field_behind(Asked::Mark, t, w.stop);
     let lots = lines::field_behind(Asked::Number, t, mark.stop);
-    let m = mark.cell;
-    let n = lots.cell;
-    let series = w.series;
-    let right = laws::and(w.right, laws::and(m.right, n.right));
-    let formed = laws::and(right, ends_at(t, lots.stop));
-    LotsLine {
-        right: laws::and(formed, is_side(m.number)),
-        series,
-        side: side_of(m.number),
-        lots: n.number,
-    }
+    let formed = w.right && mark.cell.right && lots.cell.right;
+    (formed && ends_at(t, lots.stop) && is_side(mark.cell.number)).then_some(Lots {
+        series: w.series,
+        side: side_of(mark.cell.number),
+        lots: lots.cell.number,
+    })
 }
 
 // `kind SERIES SERIES r1 r2 units`.
-fn units_behind(t: &[u8], at: usize) -> UnitsLine
-    ensures { result ≡ units_behind t.now at }
+#[tactic(auto, unfolding(crate::specs::Facts::units_behind, crate::specs::Facts::formed, book_lines::specs::Lines::pair_form, book_lines::specs::Lines::pair_from, lines::specs::Behind::chain_behind, lines::specs::Behind::series_form, lines::specs::Behind::written_in))]
+fn units_behind(t: &[u8], at: usize) -> Option<Pair>
+    ensures { result ≡ units_told (units_behind t.now at) }
 {
     let kind = lines::field_behind(Asked::Number, t, at);
     let v = lines::series_behind(t, kind.stop);
@@ -162,131 +144,112 @@ fn units_behind(t: &[u8], at: usize) -> UnitsLine
     let r1 = lines::field_behind(Asked::Number, t, w.stop);
     let r2 = lines::field_behind(Asked::Number, t, r1.stop);
     let units = lines::field_behind(Asked::Number, t, r2.stop);
-    let k = kind.cell;
-    let x = r1.cell;
-    let y = r2.cell;
-    let z = units.cell;
-    let first = v.series;
-    let second = w.series;
-    let counts = laws::and(x.right, laws::and(y.right, z.right));
-    let right = laws::and(k.right, laws::and(v.right, laws::and(w.right, counts)));
-    UnitsLine {
-        right: laws::and(right, ends_at(t, units.stop)),
-        pair: Pair {
-            kind: k.number,
-            first,
-            second,
-            r1: x.number,
-            r2: y.number,
-            units: z.number,
-        },
-    }
+    let counts = r1.cell.right && r2.cell.right && units.cell.right;
+    let formed = kind.cell.right && v.right && w.right && counts;
+    (formed && ends_at(t, units.stop)).then_some(Pair {
+        kind: kind.cell.number,
+        first: v.series,
+        second: w.series,
+        r1: r1.cell.number,
+        r2: r2.cell.number,
+        units: units.cell.number,
+    })
 }
 
 // `day`.
-fn day_behind(t: &[u8], at: usize) -> DayLine
-    ensures { result ≡ day_behind t.now at }
+#[tactic(auto, unfolding(crate::specs::Facts::day_behind, crate::specs::Facts::formed, crate::specs::Lines::day_form, lines::specs::Behind::chain_behind))]
+fn day_behind(t: &[u8], at: usize) -> Option<u32>
+    ensures { result ≡ day_told (day_behind t.now at) }
 {
     let day = lines::field_behind(Asked::Date, t, at);
-    let d = day.cell;
-    DayLine {
-        right: laws::and(d.right, ends_at(t, day.stop)),
-        day: d.number,
-    }
-}
-
-fn refused(number: u8, b: Book) -> Outcome
-    ensures { result ≡ outcome number b }
-{
-    Outcome { number, book: b }
+    (day.cell.right && ends_at(t, day.stop)).then_some(day.cell.number)
 }
 
 // A mark as a byte; 0, which is no client code, where it is none.
 fn byte_of(mark: u32) -> u8
     ensures { result ≡ pick (ltb mark 256) mark 0 }
 {
-    if mark < 256 { mark as u8 } else { 0 }
+    u8::try_from(mark).unwrap_or(0)
 }
 
-// The calls, by what stands behind their names.
-fn make_with(b: Book, m: MakeLine, first: bool) -> Outcome
-    ensures { result ≡ pick m.right (pick first (make_answer m.account (pick (ltb m.identity 256) m.identity 0) m.day) (outcome 3 b)) (outcome 1 b) }
+// The calls, by what stands behind their names. A refusal leaves the book as it is; a make that is refused leaves the empty one.
+#[tactic(auto, unfolding(rows::specs::Book::no_book))]
+fn make_with(b: &mut Book, m: Make, first: bool) -> Result<(), Refusal>
+    ensures { outcome (number_in result) b.new ≡ pick first (make_answer m.account (pick (ltb m.identity 256) m.identity 0) m.day) (outcome 3 b.old) }
 {
-    if !m.right {
-        return refused(1, b);
-    }
-    if !first {
-        return refused(3, b);
-    }
-    moves::make(m.account, byte_of(m.identity), m.day)
+    laws::ensure(first, Refusal::OutOfOrder)?;
+    *b = rows::empty_book(0, b'0', 20000101);
+    *b = moves::make(m.account, byte_of(m.identity), m.day)?;
+    Ok(())
 }
 
-fn open_with(b: Book, l: LotsLine) -> Outcome
-    ensures { result ≡ pick l.right (open_answer b l.series l.side l.lots) (outcome 1 b) }
+fn open_with(b: &mut Book, l: Lots) -> Result<(), Refusal>
+    ensures { outcome (number_in result) b.new ≡ open_answer b.old l.series l.side l.lots }
 {
-    if !l.right {
-        return refused(1, b);
-    }
-    let s = l.series;
-    let side = l.side;
-    moves::open(b, s, side, l.lots)
+    *b = moves::open(*b, l.series, l.side, l.lots)?;
+    Ok(())
 }
 
-fn close_with(b: Book, l: LotsLine) -> Outcome
-    ensures { result ≡ pick l.right (close_answer b l.series l.side l.lots) (outcome 1 b) }
+fn close_with(b: &mut Book, l: Lots) -> Result<(), Refusal>
+    ensures { outcome (number_in result) b.new ≡ close_answer b.old l.series l.side l.lots }
 {
-    if !l.right {
-        return refused(1, b);
-    }
-    let s = l.series;
-    let side = l.side;
-    moves::close(b, s, side, l.lots)
+    *b = moves::close(*b, l.series, l.side, l.lots)?;
+    Ok(())
 }
 
-fn pair_with(b: Book, u: UnitsLine) -> Outcome
-    ensures { result ≡ pick u.right (pair_answer b u.pair) (outcome 1 b) }
+fn pair_with(b: &mut Book, p: Pair) -> Result<(), Refusal>
+    ensures { outcome (number_in result) b.new ≡ pair_answer b.old p }
 {
-    if !u.right {
-        return refused(1, b);
-    }
-    let p = u.pair;
-    ties::pair(b, p)
+    *b = ties::pair(*b, p)?;
+    Ok(())
 }
 
-fn split_with(b: Book, u: UnitsLine) -> Outcome
-    ensures { result ≡ pick u.right (split_answer b u.pair) (outcome 1 b) }
+fn split_with(b: &mut Book, p: Pair) -> Result<(), Refusal>
+    ensures { outcome (number_in result) b.new ≡ split_answer b.old p }
 {
-    if !u.right {
-        return refused(1, b);
-    }
-    let p = u.pair;
-    ties::split(b, p)
+    *b = ties::split(*b, p)?;
+    Ok(())
 }
 
-fn turn_with(b: Book, d: DayLine) -> Outcome
-    ensures { result ≡ pick d.right (turn_answer b d.day) (outcome 1 b) }
+fn turn_with(b: &mut Book, day: u32) -> Result<(), Refusal>
+    ensures { outcome (number_in result) b.new ≡ turn_answer b.old day }
 {
-    if !d.right {
-        return refused(1, b);
-    }
-    moves::turn(b, d.day)
+    *b = moves::turn(*b, day)?;
+    Ok(())
 }
 
 // What a book answers to the line that begins at `at`.
-fn answer_at(b: Book, t: &[u8], at: usize, first: bool) -> Outcome
+fn answer_at(b: &mut Book, t: &[u8], at: usize, first: bool) -> Result<(), Refusal>
     requires { at ≤ length t.now }
-    ensures { result ≡ answer_to first b (said_at t.now at) }
+    ensures { outcome (number_in result) b.new ≡ answer_to first b.old (said_at t.now at) }
 {
     let stop = lines::stop_of(t, at);
-    let name = name_of(&t[at..stop]);
-    match name {
-        Name::Nothing => refused(1, b),
-        Name::Make => make_with(b, make_behind(t, stop), first),
-        Name::Open => open_with(b, lots_behind(t, stop)),
-        Name::Close => close_with(b, lots_behind(t, stop)),
-        Name::Pair => pair_with(b, units_behind(t, stop)),
-        Name::Split => split_with(b, units_behind(t, stop)),
-        Name::Turn => turn_with(b, day_behind(t, stop)),
+    match name_of(&t[at..stop]) {
+        Name::Nothing => Err(Refusal::Malformed),
+        Name::Make => match make_behind(t, stop) {
+            Some(m) => make_with(b, m, first),
+            None => Err(Refusal::Malformed),
+        },
+        Name::Open => match lots_behind(t, stop) {
+            Some(l) => open_with(b, l),
+            None => Err(Refusal::Malformed),
+        },
+        Name::Close => match lots_behind(t, stop) {
+            Some(l) => close_with(b, l),
+            None => Err(Refusal::Malformed),
+        },
+        Name::Pair => match units_behind(t, stop) {
+            Some(p) => pair_with(b, p),
+            None => Err(Refusal::Malformed),
+        },
+        Name::Split => match units_behind(t, stop) {
+            Some(p) => split_with(b, p),
+            None => Err(Refusal::Malformed),
+        },
+        Name::Turn => match day_behind(t, stop) {
+            Some(day) => turn_with(b, day),
+            None => Err(Refusal::Malformed),
+        },
     }
 }
 
@@ -316,10 +279,8 @@ pub fn work(b: Book, t: &[u8]) -> Worked
     }
     let mut at: usize = 0;
     while at < t.len() {
-        let o = answer_at(book, t, at, count == 0);
-        let next = o.book;
-        book = next;
-        numbers[count] = o.number;
+        let answer = answer_at(&mut book, t, at, count == 0);
+        numbers[count] = answer.err().map_or(0, Refusal::number);
         count += 1;
         at = next_line(t, at);
     }
@@ -336,17 +297,8 @@ pub fn makes_book(t: &[u8]) -> bool
     ensures { result ≡ makes_book t.now }
 {
     let stop = lines::stop_of(t, 0);
-    let name = name_of(&t[..stop]);
-    match name {
-        Name::Nothing => false,
-        Name::Make => {
-            let m = make_behind(t, stop);
-            m.right
-        }
-        Name::Open => false,
-        Name::Close => false,
-        Name::Pair => false,
-        Name::Split => false,
-        Name::Turn => false,
+    match name_of(&t[..stop]) {
+        Name::Make => make_behind(t, stop).is_some(),
+        _ => false,
     }
 }

@@ -16,7 +16,7 @@ use Rattle.rows.specs.Rows.{series_rank, holding_rank, pair_rank, no_lots, no_un
 use Rattle.rows.specs.Book.{holdings_of, pairs_of, with_holdings, with_pairs, with_day, empty_book, no_book}
 use Rattle.rules.specs.Lots.{Leg, first_leg, second_leg, total, free, units_of}
 use Rattle.rules.specs.Rules.{account_fits, is_identity, lots_fit, counts_fit, sound_book}
-use Rattle.calls.specs.declared.Outcome.{Outcome}
+use Rattle.calls.specs.Outcome.{Outcome}
 
 abbrev pub outcome : ℕ → Book → Outcome
 outcome n b = record { number = n; book = b }

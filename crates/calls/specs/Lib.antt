@@ -1,3 +1,5 @@
+pub mod Outcome
+pub mod OutcomeLaws
 pub mod Calls
 pub mod HeldLaws
 pub mod Facts

@@ -5,8 +5,11 @@ use Rattle.std.proofs.Common.{sym, ◌∙◌, arith, ne_eqb}
 use mathlib.Core.List.{List, ◌++◌}
 use Rattle.std.proofs.Math.ListN.{length, take, length-map}
 use Rattle.laws.specs.Truth.{pick, both, either}
-use Rattle.laws.specs.TruthLaws.{by_test}
+use Rattle.laws.specs.TruthLaws.{by_test, picked}
 use Rattle.laws.specs.Search.{every_line}
+use Rattle.laws.specs.declared.Refusal.{Refusal}
+use Rattle.laws.specs.Refusals.{number_of}
+use Rattle.laws.specs.RefusalLaws.{refusal_positive}
 use Rattle.laws.specs.Checks.{Check, first_failing, all_pass, numbered, or_else}
 use Rattle.laws.specs.CheckLaws.{first_of_two, no_failure, none_fails}
 use Rattle.lists.specs.Places.{full}
@@ -49,6 +52,13 @@ unfolding answered
 accepted_with cs b new n k e z is =
     let f : first_failing cs ≡ 0 = sym e ∙ z in
     rw (no_failure cs k f, f, is)
+
+-- The same of a refusal, and of checks that answer Ok.
+pub refused_by : (cs : List Check) (b new : Book) (r : Refusal) → number_of r ≡ first_failing cs → outcome (number_of r) b ≡ answered cs b new
+refused_by cs b new r e = let h = refusal_positive r in refused_with cs b new (number_of r) e (λ z. omega arith)
+
+pub accepted_by : (cs : List Check) (b new : Book) {r : Book} → numbered cs ≡ true → 0 ≡ first_failing cs → r ≡ new → outcome 0 r ≡ answered cs b new
+accepted_by cs b new k e is = accepted_with cs b new 0 k e refl is
 
 -- no check fails where the number is 0
 pub passes_all : (cs : List Check) (n : ℕ) → numbered cs ≡ true → n ≡ first_failing cs → n ≡ 0 → all_pass cs ≡ true
@@ -134,7 +144,7 @@ module _ (b : Book) (e : sound_book b ≡ true) where
   free_count hs ps = simp length-map
 
   -- free lots are read off the rows with free lots
-  free_is : (s : Series) (d : Side) (rows : List Holding) → rows ≡ full 128 empty_holding (free_rows (holdings_of b) (pairs_of b)) → lots_on d (holding_in (take b.held rows) s) ≡ free b s d
+  pub free_is : (s : Series) (d : Side) (rows : List Holding) → rows ≡ full 128 empty_holding (free_rows (holdings_of b) (pairs_of b)) → lots_on d (holding_in (take b.held rows) s) ≡ free b s d
   unfolding free total
   free_is s d rows is =
       let sound = sound_is b e in
@@ -162,6 +172,36 @@ module _ (b : Book) (e : sound_book b ≡ true) where
   pub turn_number : (day : ℕ) {r : ℕ} → r ≡ pick (is_day day) (pick (ltb b.day day) 0 13) 5 → r ≡ first_failing (turn_checks b day)
   unfolding turn_checks book_checks first_failing
   turn_number day q = q ∙ rw e
+
+-- The numbers of the calls on any book, check by check.
+pub open_says : (b : Book) (s : Series) (d : Side) (n : ℕ) → first_failing (open_checks b s d n) ≡ pick (sound_book b) (or_else (series_number s) (pick (lots_fit n) (pick (leb (lots_on d (held_of (holdings_of b) s) + n) 100000) (pick (either (not (no_lots (held_of (holdings_of b) s))) (ltb b.held 128)) 0 8) 7) 6)) 16
+open_says b s d n =
+    picked (λ (m : ℕ). first_failing (open_checks b s d n) ≡ m) (sound_book b) _ 16
+    (λ e. sym (open_number b e s d n (held_of (holdings_of b) s) refl refl))
+    (λ e. sym (open_unsound b e s d n))
+
+pub close_says : (b : Book) (s : Series) (d : Side) (n : ℕ) → first_failing (close_checks b s d n) ≡ pick (sound_book b) (or_else (series_number s) (pick (lots_fit n) (pick (leb n (free b s d)) 0 9) 6)) 16
+unfolding close_checks book_checks first_failing
+close_says b s d n = ap (λ (m : ℕ). pick (sound_book b) m 16) (series_then s _)
+
+pub pair_says : (b : Book) (p : Pair) → first_failing (pairing_checks b p) ≡ pick (sound_book b) (or_else (series_number p.first) (or_else (series_number p.second) (pick (counts_fit p.r1 p.r2 p.units) (or_else (pair_number p.kind p.first p.second p.r1 p.r2) (pick (both (leg_free b (first_leg p)) (leg_free b (second_leg p))) (pick (either (not (no_units (pair_in (pairs_of b) p))) (ltb b.paired 128)) 0 11) 9)) 6))) 16
+unfolding pairing_checks book_checks first_failing
+pair_says b p =
+    picked (λ (m : ℕ). first_failing (pairing_checks b p) ≡ m) (sound_book b) _ 16
+    (λ e.
+    rw (← stands_paired (pairs_of b) p (pairs_good (sound_is b e)), e)
+    (series_then p.first _ ∙ ap (or_else (series_number p.first)) (series_then p.second _ ∙ ap (λ (m : ℕ). or_else (series_number p.second) (pick (counts_fit p.r1 p.r2 p.units) m 6)) (pair_then p.kind p.first p.second p.r1 p.r2 _))))
+    (λ e. sym (pair_unsound b e p))
+
+pub split_says : (b : Book) (p : Pair) → first_failing (split_checks b p) ≡ pick (sound_book b) (or_else (series_number p.first) (or_else (series_number p.second) (pick (counts_fit p.r1 p.r2 p.units) (pick (leb p.units (pair_in (pairs_of b) p).units) 0 12) 6))) 16
+unfolding split_checks book_checks first_failing units_of
+split_says b p = ap (λ (m : ℕ). pick (sound_book b) m 16) (series_then p.first _ ∙ ap (or_else (series_number p.first)) (series_then p.second _))
+
+pub turn_says : (b : Book) (day : ℕ) → first_failing (turn_checks b day) ≡ pick (sound_book b) (pick (is_day day) (pick (ltb b.day day) 0 13) 5) 16
+turn_says b day =
+    picked (λ (m : ℕ). first_failing (turn_checks b day) ≡ m) (sound_book b) _ 16
+    (λ e. sym (turn_number b e day refl))
+    (λ e. sym (turn_unsound b e day))
 
 -- Where no check fails the row can be kept.
 module _ {b : Book} {s : Series} {d : Side} {n : ℕ} where

@@ -6,7 +6,7 @@
 //   NNNN.sheet alone                           check_sheet
 #![tactic(auto)]
 
-ghost use Rattle.std.specs.Prelude.{◌≤◌, length, IfOk, OnOk};
+ghost use Rattle.std.specs.Prelude.{◌≤◌, length, unwrap_or, IfOk, OnOk};
 ghost use Rattle.std.specs.Io.KnownBytes.{Appends};
 ghost use Rattle.reading.specs.Reading.{read_book};
 ghost use Rattle.checking.specs.Reading.{judged};
@@ -15,32 +15,19 @@ ghost use Rattle.reports.specs.Statement.{statement_text};
 ghost use Rattle.reports.specs.Desk.{desk_text};
 ghost use Rattle.cases.specs.Numbered.{numbered};
 
-use files::Loaded;
 use std::io;
 use std::io::Write;
 use std::rt::Files;
 
-// The file of a number; it is empty where there is none.
-fn load_calls<R: Files>(rt: &R, number: u64, buffer: &mut [u8]) -> io::Result<Loaded>
-    ensures { IfOk result (λ loaded. loaded.count ≤ length buffer.new) }
+// The file of a number, whose name has room for its four digits in front.
+fn load<R: Files, const N: usize>(
+    rt: &R,
+    mut name: [u8; N],
+    number: u64,
+    buffer: &mut [u8],
+) -> io::Result<Option<usize>>
+    ensures { IfOk result (λ loaded. unwrap_or loaded 0 ≤ length buffer.new) }
 {
-    let mut name = *b"0000.calls";
-    put::put_fixed(&mut name, 0, 4, number);
-    files::load(rt, &name, buffer)
-}
-
-fn load_book<R: Files>(rt: &R, number: u64, buffer: &mut [u8]) -> io::Result<Loaded>
-    ensures { IfOk result (λ loaded. loaded.count ≤ length buffer.new) }
-{
-    let mut name = *b"0000.book";
-    put::put_fixed(&mut name, 0, 4, number);
-    files::load(rt, &name, buffer)
-}
-
-fn load_sheet<R: Files>(rt: &R, number: u64, buffer: &mut [u8]) -> io::Result<Loaded>
-    ensures { IfOk result (λ loaded. loaded.count ≤ length buffer.new) }
-{
-    let mut name = *b"0000.sheet";
     put::put_fixed(&mut name, 0, 4, number);
     files::load(rt, &name, buffer)
 }
@@ -95,22 +82,17 @@ fn answer<R: Files, W: Write>(
     book: &mut [u8],
     text: &mut [u8],
 ) -> io::Result<()> {
-    let b = load_book(rt, number, book)?;
-    let c = load_calls(rt, number, text)?;
-    if c.opened {
-        return say_desk(out, number, &book[..b.count], &text[..c.count]);
+    let held = load(rt, *b"0000.book", number, book)?;
+    let b = &book[..held.unwrap_or(0)];
+    if let Some(n) = load(rt, *b"0000.calls", number, text)? {
+        return say_desk(out, number, b, &text[..n]);
     }
-    let s = load_sheet(rt, number, text)?;
-    if s.opened {
-        if b.opened {
-            return say_margin(out, number, &book[..b.count], &text[..s.count]);
-        }
-        return say_sheet(out, number, &text[..s.count]);
+    match (held, load(rt, *b"0000.sheet", number, text)?) {
+        (Some(_), Some(n)) => say_margin(out, number, b, &text[..n]),
+        (None, Some(n)) => say_sheet(out, number, &text[..n]),
+        (Some(_), None) => say_book(out, number, b),
+        (None, None) => Ok(()),
     }
-    if b.opened {
-        return say_book(out, number, &book[..b.count]);
-    }
-    Ok(())
 }
 
 fn main(rt: HostRuntime) -> io::Result<()> {

@@ -22,5 +22,5 @@ fn print<W: Write>(out: &mut W, book: &[u8]) -> io::Result<()>
 fn main(rt: HostRuntime) -> io::Result<()> {
     let mut book = [0u8; 16385];
     let loaded = files::load(&rt, b"book", &mut book)?;
-    print(&mut rt.stdout(), &book[..loaded.count])
+    print(&mut rt.stdout(), &book[..loaded.unwrap_or(0)])
 }

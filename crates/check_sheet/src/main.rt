@@ -22,5 +22,5 @@ fn print<W: Write>(out: &mut W, sheet: &[u8]) -> io::Result<()>
 fn main(rt: HostRuntime) -> io::Result<()> {
     let mut sheet = [0u8; 65537];
     let loaded = files::load(&rt, b"sheet", &mut sheet)?;
-    print(&mut rt.stdout(), &sheet[..loaded.count])
+    print(&mut rt.stdout(), &sheet[..loaded.unwrap_or(0)])
 }

@@ -6,3 +6,4 @@ pub mod SheetLaws
 pub mod TurnLaws
 pub mod StepLaws
 pub mod QuoteLaws
+pub mod VerdictLaws

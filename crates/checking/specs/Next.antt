@@ -1,6 +1,6 @@
 -- Lines that may stand in a sheet, and a sheet with one row more (document 01, "Text"). RowLaws: it is the sheet of the lines with one
 -- line more.
-use Rattle.std.specs.Prelude.{◌≡◌, Bool, true, not, List, [], ◌∷◌, ◌++◌, ℕ, ◌≤◌, leb, ltb, eqb, length}
+use Rattle.std.specs.Prelude.{◌≡◌, Bool, true, not, List, [], ◌∷◌, ◌++◌, ℕ, ◌≤◌, leb, ltb, eqb, length, Option}
 use Rattle.laws.specs.Truth.{both}
 use Rattle.laws.specs.Checks.{all_pass}
 use Rattle.laws.specs.Search.{every_line}
@@ -11,12 +11,11 @@ use Rattle.amounts.specs.declared.IndexLine.{IndexLine}
 use Rattle.amounts.specs.declared.StockLine.{StockLine}
 use Rattle.amounts.specs.Lines.{index_fits, stock_fits}
 use Rattle.lines.specs.Pieces.{lf, Pieces, one, more, split_on}
-use Rattle.sheets.specs.declared.Found.{Found}
 use Rattle.sheets.specs.declared.FutureRow.{FutureRow}
 use Rattle.sheets.specs.declared.OptionRow.{OptionRow}
 use Rattle.sheets.specs.declared.StockRow.{StockRow}
 use Rattle.sheets.specs.declared.PriceRow.{PriceRow}
-use Rattle.sheets.specs.declared.Sheet.{Sheet}
+use Rattle.sheets.specs.Sheet.{Sheet}
 use Rattle.sheets.specs.Rows.{future_codes, option_codes, two_capitals}
 use Rattle.sheet_lines.specs.Lines.{Line, sheet_line, rank, among, own_checks, line_checks}
 
@@ -53,7 +52,7 @@ with_day sheet day =
       quoted = sheet.quoted;
     }
 
-abbrev pub with_futures : Sheet → List Found → Sheet
+abbrev pub with_futures : Sheet → List (Option ℕ) → Sheet
 with_futures sheet futures =
     record {
       number = sheet.number;

@@ -15,12 +15,10 @@ use Rattle.lines.specs.declared.Cell.{Cell}
 use Rattle.lines.specs.Pieces.{tab, lf, stops}
 use Rattle.lines.specs.Fields.{field_at, nature_of}
 use Rattle.lines.specs.StopLaws.{tab_stops}
-use Rattle.sheets.specs.declared.Sheet.{Sheet}
+use Rattle.sheets.specs.Sheet.{Sheet}
 use Rattle.sheet_lines.specs.Lines.{head_form, future_form, option_form, stock_form, price_form, cell, figure, letter_in}
 use Rattle.sheet_lines.specs.Facts.{asked_table, place_for, fields_for, number_for}
-use Rattle.price_lines.specs.declared.Head.{Head}
-use Rattle.price_lines.specs.declared.Figures.{Figures}
-use Rattle.price_lines.specs.Heads.{filled, strike_at, price_at, head_at, next_figures}
+use Rattle.price_lines.specs.Heads.{Head, Figures, filled, strike_at, price_at, head_at, next_figures}
 use Rattle.price_lines.specs.SameLaws.{one_stop, one_text}
 use Rattle.price_lines.specs.HeadLaws.{HeadIs, FiguresIs, head_is, next_is, head_moves}
 use Rattle.price_lines.specs.FigureLaws.{with_figures, cells_at, code_stays, date_stays, bytes_are, mark_read, cells_say, number_0}

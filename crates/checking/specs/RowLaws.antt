@@ -8,7 +8,7 @@ use mathlib.Core.List.{List, [], ◌∷◌, ◌++◌, append-nil}
 use native.Mathlib.Omega.{arith}
 use Rattle.std.proofs.Math.Dec.{eqb}
 use Rattle.std.proofs.Math.ListN.{length}
-use Rattle.laws.specs.declared.Order.TheVariants.{Less}
+use Rattle.std.specs.declared.cmp.Ordering.TheVariants.{Less}
 use Rattle.laws.specs.Truth.{both, either}
 use Rattle.laws.specs.TruthLaws.{both_true, both_hold, clash}
 use Rattle.laws.specs.Bytes.{same_bytes}
@@ -35,9 +35,8 @@ use Rattle.sheets.specs.declared.FutureRow.{FutureRow}
 use Rattle.sheets.specs.declared.OptionRow.{OptionRow}
 use Rattle.sheets.specs.declared.StockRow.{StockRow}
 use Rattle.sheets.specs.declared.PriceRow.{PriceRow}
-use Rattle.sheets.specs.declared.Sheet.{Sheet}
+use Rattle.sheets.specs.Sheet.{Sheet, future_place, option_place, stock_place, stock_at, laid_out}
 use Rattle.sheets.specs.Rows.{no_rows, future_codes, option_codes, two_capitals, found, nothing, no_index, no_stock, no_price, clearing_in, index_in, stock_in}
-use Rattle.sheets.specs.Sheet.{future_place, option_place, stock_place, stock_at, laid_out}
 use Rattle.sheets.specs.TableLaws.{futures_differ, options_differ, table_set, found_last, found_others, tabled_set, place_below, stock_at_place}
 use Rattle.sheet_lines.specs.Lines.{Line, head, future, option, stock, price, formless, rank, among, is_quoted, own_checks, is_head, checks_by, line_checks}
 use Rattle.checking.specs.Reading.{future_row, option_row, stock_row, price_row, day_of, rows_of}

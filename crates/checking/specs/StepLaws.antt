@@ -1,7 +1,7 @@
 -- Laws of the loop over lines: where a line begins, how it is refused, and what the next one finds.
 use Rattle.std.proofs.Math.Path.{◌≡◌, refl, sym}
 use Rattle.std.proofs.Common.{ap, ◌∙◌, ⊎_elim, drop_of_length-le, length-append}
-use Rattle.std.specs.Prelude.{Bool, not, List, [], ◌∷◌, ◌++◌, eqb, get_or, take, drop, set}
+use Rattle.std.specs.Prelude.{Bool, not, List, [], ◌∷◌, ◌++◌, eqb, get_or, take, drop, set, Option, Result, Ok, Err}
 use Rattle.std.proofs.Math.Bool.{true, false}
 use Prim.Native.Nat.{ℕ, suc, ◌+◌, ◌-◌, ◌<◌, ◌≤◌}
 use native.Mathlib.Omega.{arith}
@@ -9,9 +9,11 @@ use Rattle.std.proofs.Math.Decide.{dec_lt}
 use borrow.Author.Tests.{lt-leb, le-leb, eq-eqb, ne_eqb, lt-ltb, le-ltb}
 use Rattle.std.proofs.Math.Dec.{ltb}
 use Rattle.std.proofs.Math.ListN.{length, length-drop}
-use Rattle.laws.specs.declared.Order.TheVariants.{Less}
+use Rattle.std.specs.declared.cmp.Ordering.TheVariants.{Less}
 use Rattle.laws.specs.Truth.{pick, either}
 use Rattle.laws.specs.TruthLaws.{false_unless}
+use Rattle.laws.specs.declared.Refusal.{Refusal}
+use Rattle.laws.specs.Refusals.{number_in}
 use Rattle.laws.specs.Checks.{first_failing, all_pass}
 use Rattle.laws.specs.CheckLaws.{none_fails, no_failure}
 use Rattle.laws.specs.Order.{is_less, bytes_order}
@@ -26,14 +28,12 @@ use Rattle.lines.specs.Fields.{field_at}
 use Rattle.lines.specs.CutLaws.{next_low, part_more, part_last}
 use Rattle.lines.specs.StopLaws.{stop_high, stop_within, line_at}
 use Rattle.lines.specs.LoopLaws.{InLine, line_begins, stop_less, line_bad, line_room, line_on, line_end, line_done}
-use Rattle.sheets.specs.declared.Found.{Found}
 use Rattle.sheets.specs.declared.FutureRow.{FutureRow}
 use Rattle.sheets.specs.declared.OptionRow.{OptionRow}
 use Rattle.sheets.specs.declared.StockRow.{StockRow}
 use Rattle.sheets.specs.declared.PriceRow.{PriceRow}
-use Rattle.sheets.specs.declared.Sheet.{Sheet}
+use Rattle.sheets.specs.Sheet.{Sheet, future_place, option_place, stock_place, laid_out}
 use Rattle.sheets.specs.Rows.{found, no_rows}
-use Rattle.sheets.specs.Sheet.{future_place, option_place, stock_place, laid_out}
 use Rattle.amounts.specs.declared.IndexLine.{IndexLine}
 use Rattle.sheet_lines.specs.Lines.{Line, head, future, option, stock, price, formless, figure, future_from, option_from, stock_from, price_from, letter_in, form_of, said, sheet_line, rank, own_checks, checks_by, line_checks}
 use Rattle.checking.specs.Reading.{rows_of, refused_at, judged_as, judge_lines, judged, sheet_of, read_sheet}
@@ -42,6 +42,11 @@ use Rattle.checking.specs.Next.{Good, with_day, with_futures, with_options, with
 use Rattle.checking.specs.TurnLaws.{Letter, is_D, is_F, is_O, is_S, is_Q, form_few, form_at, line_formless, line_wrong, line_right, letter_known}
 use Rattle.sheet_lines.specs.NumberLaws.{line_numbered}
 use Rattle.checking.specs.RowLaws.{no_lines, none_good, more_good, head_laid, future_laid, option_laid, stocks_room, stock_laid, price_laid, quoted_room}
+
+-- The number of a check that does not refuse.
+pub no_number : (r : Result Unit Refusal) → ((q : Refusal) → r ≡ Err q → ⊥) → number_in r ≡ 0
+no_number (Ok a) h = refl
+no_number (Err q) h = absurd (h q refl)
 
 -- what comes of the text t
 abbrev pub answer_of : List ℕ → Sheet
@@ -270,7 +275,7 @@ module _ {t : List ℕ} {sheet : Sheet} {last : ℕ} {before : List Cell} {line 
     head_next l = next_line (says_head l) (head_laid along.good here.room along.is (figure cells 0) (passes_as (says_head l)))
 
     -- An F line.
-    pub future_next : letter ≡ 70 → {r : FutureRow} {rows : List Found} → r ≡ future_from cells → rows ≡ set sheet.futures (future_place r.code) (found r.clearing) → AtLine t (with_futures sheet rows) letter cells line (end + 1)
+    pub future_next : letter ≡ 70 → {r : FutureRow} {rows : List (Option ℕ)} → r ≡ future_from cells → rows ≡ set sheet.futures (future_place r.code) (found r.clearing) → AtLine t (with_futures sheet rows) letter cells line (end + 1)
     future_next l is e = rw (e, is) (next_line (says_future l) (future_laid along.good here.room along.is (future_from cells) (passes_as (says_future l))))
 
     -- An O line.

@@ -2,16 +2,12 @@
 #![tactic(auto)]
 
 ghost use Rattle.std.specs.Prelude.{◌≡◌, ◌<◌};
-ghost use Rattle.laws.specs.Bytes.{same_bytes};
-ghost use Rattle.laws.specs.Order.{bytes_order};
 ghost use Rattle.codes.specs.Codes.{product_of, names_stock, unlisted, stock, unknown, capital, known, is_future_class, is_option_class, is_stock_future, is_stock_option, own_option};
 ghost use Rattle.codes.specs.CodeLaws.{mark_of, product_marked};
 ghost use Rattle.codes.specs.declared.Class.TheVariants.{ListedFuture, ListedOption};
 
-use laws::Order;
-
 // What kind of product a code is.
-#[derive(Clone, Copy)]
+#[derive(Clone, Copy, Debug, PartialEq, Eq)]
 pub enum Class {
     Unknown,
     ListedFuture,
@@ -29,25 +25,10 @@ pub struct Product {
     pub part: u32,
 }
 
-pub fn same_code(x: [u8; 3], y: [u8; 3]) -> bool
-    ensures { result ≡ same_bytes x y }
-{
-    laws::and(x[0] == y[0], laws::and(x[1] == y[1], x[2] == y[2]))
-}
-
-// The order of two codes by their bytes.
-pub fn compare_codes(x: [u8; 3], y: [u8; 3]) -> Order
-    ensures { result ≡ bytes_order x y }
-{
-    let last = laws::order_of(x[2] as u64, y[2] as u64);
-    let later = laws::then_by(laws::order_of(x[1] as u64, y[1] as u64), last);
-    laws::then_by(laws::order_of(x[0] as u64, y[0] as u64), later)
-}
-
 fn is_capital(b: u8) -> bool
     ensures { result ≡ capital b }
 {
-    laws::and(b'A' <= b, b <= b'Z')
+    b.is_ascii_uppercase()
 }
 
 fn unknown_code(code: [u8; 3]) -> Product
@@ -73,26 +54,23 @@ fn stock_code(class: Class, code: [u8; 3]) -> Product
 }
 
 // Whether two capitals name a stock.
+#[tactic(auto, unfolding(crate::specs::Codes::names_stock))]
 pub fn names_stock(code: [u8; 3]) -> bool
     ensures { result ≡ names_stock code }
 {
-    laws::and(is_capital(code[0]), is_capital(code[1]))
+    is_capital(code[0]) && is_capital(code[1])
 }
 
 // A code that is not listed: two capitals, which name a stock, then F or O.
+#[tactic(auto, unfolding(crate::specs::Codes::unlisted))]
 fn unlisted_code(code: [u8; 3]) -> Product
     ensures { result ≡ unlisted code }
 {
-    if !names_stock(code) {
-        return unknown_code(code);
+    match code[2] {
+        b'F' if names_stock(code) => stock_code(Class::StockFuture, code),
+        b'O' if names_stock(code) => stock_code(Class::StockOption, code),
+        _ => unknown_code(code),
     }
-    if code[2] == b'F' {
-        return stock_code(Class::StockFuture, code);
-    }
-    if code[2] == b'O' {
-        return stock_code(Class::StockOption, code);
-    }
-    unknown_code(code)
 }
 
 // A line of the full-size futures.
@@ -131,20 +109,16 @@ fn option_line(code: [u8; 3], parent: [u8; 3]) -> Product
     }
 }
 
-fn wide(x: u8) -> u32
-    ensures { (result ≡ x) × (result < 256) }
-{
-    x as u32
-}
-
 // The mark of a code, of its second and third byte: no two listed codes have the same.
+#[tactic(auto, unfolding(crate::specs::CodeLaws::mark_of))]
 fn mark_of(code: [u8; 3]) -> u32
     ensures { result ≡ mark_of code }
 {
-    (wide(code[1]) * 3 + wide(code[2])) % 32
+    (u32::from(code[1]) * 3 + u32::from(code[2])) % 32
 }
 
 // The listed line of a mark.
+#[tactic(auto, unfolding(crate::specs::CodeLaws::product_marked, crate::specs::CodeLaws::mark_of, laws::specs::Search::first_where, crate::specs::Codes::listed))]
 fn product_marked(mark: u32) -> Product
     ensures { result ≡ product_marked mark }
 {
@@ -174,8 +148,7 @@ pub fn product_of(code: [u8; 3]) -> Product
     ensures { result ≡ product_of code }
 {
     let line = product_marked(mark_of(code));
-    let listed = line.code;
-    if same_code(code, listed) {
+    if code == line.code {
         return line;
     }
     unlisted_code(code)
@@ -184,73 +157,39 @@ pub fn product_of(code: [u8; 3]) -> Product
 pub fn is_known(class: Class) -> bool
     ensures { result ≡ known class }
 {
-    match class {
-        Class::Unknown => false,
-        Class::ListedFuture => true,
-        Class::ListedOption => true,
-        Class::StockFuture => true,
-        Class::StockOption => true,
-    }
+    class != Class::Unknown
 }
 
 pub fn is_future_class(class: Class) -> bool
     ensures { result ≡ is_future_class class }
 {
-    match class {
-        Class::Unknown => false,
-        Class::ListedFuture => true,
-        Class::ListedOption => false,
-        Class::StockFuture => true,
-        Class::StockOption => false,
-    }
+    matches!(class, Class::ListedFuture | Class::StockFuture)
 }
 
 pub fn is_stock_future(class: Class) -> bool
     ensures { result ≡ is_stock_future class }
 {
-    match class {
-        Class::Unknown => false,
-        Class::ListedFuture => false,
-        Class::ListedOption => false,
-        Class::StockFuture => true,
-        Class::StockOption => false,
-    }
+    class == Class::StockFuture
 }
 
 fn is_stock_option(class: Class) -> bool
     ensures { result ≡ is_stock_option class }
 {
-    match class {
-        Class::Unknown => false,
-        Class::ListedFuture => false,
-        Class::ListedOption => false,
-        Class::StockFuture => false,
-        Class::StockOption => true,
-    }
+    class == Class::StockOption
 }
 
 pub fn is_option_class(class: Class) -> bool
     ensures { result ≡ is_option_class class }
 {
-    match class {
-        Class::Unknown => false,
-        Class::ListedFuture => false,
-        Class::ListedOption => true,
-        Class::StockFuture => false,
-        Class::StockOption => true,
-    }
+    matches!(class, Class::ListedOption | Class::StockOption)
 }
 
 // Whether the two codes are one stock's own future and option.
+#[tactic(auto, using(laws::specs::ByteLaws::as_pointwise), unfolding(crate::specs::Codes::own_option))]
 pub fn is_own_option(future: [u8; 3], option: [u8; 3]) -> bool
     ensures { result ≡ own_option future option }
 {
     let f = product_of(future);
     let o = product_of(option);
-    let fc = f.class;
-    let oc = o.class;
-    let fp = f.parent;
-    let op = o.parent;
-    let classes = laws::and(is_stock_future(fc), is_stock_option(oc));
-    laws::and(classes, same_code(fp, op))
+    is_stock_future(f.class) && is_stock_option(o.class) && f.parent == o.parent
 }

@@ -23,5 +23,5 @@ fn main(rt: HostRuntime) -> io::Result<()> {
     let mut book = [0u8; 16385];
     rt.stdin().take(65537).read_to_end(&mut calls)?;
     let b = files::load(&rt, b"book", &mut book)?;
-    print(&mut rt.stdout(), &book[..b.count], &calls)
+    print(&mut rt.stdout(), &book[..b.unwrap_or(0)], &calls)
 }

@@ -8,10 +8,10 @@ ghost use Rattle.digits.specs.Digits.{width_of};
 pub fn width_of(n: u64) -> usize
     ensures { result ≡ width_of n }
 {
-    let mut w: usize = 1;
+    let mut w = 1;
     let mut m = n;
     while 9 < m {
-        m = m / 10;
+        m /= 10;
         w += 1;
     }
     w

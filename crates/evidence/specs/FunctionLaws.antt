@@ -1,5 +1,11 @@
 -- Document 01, "How much each contract has to say": for every public function of every library the law that no second answer satisfies its
 -- contract. `Learnt` is the function's own `ensures`, as a caller learns it. A law has the name of its crate and function.
+use contract.Lifetimes.{Lfts}
+use denote.Param.Laws.{Laws, IsCopy}
+use denote.RattleType.{RattleType}
+use mir.Syntax.{Dict}
+use Rattle.std.specs.declared.clone.Clone
+use Rattle.rows.specs.declared.Row
 use Rattle.laws.specs.OneAnswer.{one_answer}
 use Rattle.laws.specs.contracts as laws_stated
 use Rattle.laws.proofs as laws
@@ -66,39 +72,33 @@ use Rattle.reports.proofs as reports
 use Rattle.exports.specs.contracts as exports_stated
 use Rattle.exports.proofs as exports
 use Rattle.evidence.specs.OneAnswer.{OneAnswer}
-use Rattle.evidence.specs.OneAnswerLaws.{by_equation, by_equations}
+use Rattle.evidence.specs.OneAnswerLaws.{by_equation, by_equations, by_writing, by_number, by_image, by_images, one_head, one_figures}
+use Rattle.calls.specs.Outcome.{outcome_in}
+use Rattle.levels.specs.Levels.{answer_of}
+use Rattle.levels.specs.LevelLaws.{one_levels}
+use Rattle.calls.specs.OutcomeLaws.{one_outcome}
+use Rattle.reading.specs.Reading.{answer_in}
+use Rattle.reading.specs.AnswerLaws.{one_reading}
+use Rattle.printed.specs.Printed.{printed_in}
+use Rattle.printed.specs.PrintedLaws.{one_printed}
+use Rattle.sheets.specs.Sheet.{sheet_in}
+use Rattle.sheets.specs.FaultLaws.{one_sheet}
+use Rattle.checking.specs.Reading.{verdict_in}
+use Rattle.checking.specs.VerdictLaws.{one_check}
+use Rattle.account.specs.Margin.{margin_in}
+use Rattle.account.specs.MarginLaws.{one_margin}
+use Rattle.price_lines.specs.Heads.{head_of, figures_of}
 use Rattle.evidence.specs.PriceOf
 
 -- laws
-pub laws_and : OneAnswer laws_stated.and.ended laws.and.Reads.Learnt
-laws_and κs a r s e f = by_equation
+pub laws_number : OneAnswer laws_stated.Refusal.number.ended laws.Refusal.number.Reads.Learnt
+laws_number κs a r s e f = by_equation
 
-pub laws_or : OneAnswer laws_stated.or.ended laws.or.Reads.Learnt
-laws_or κs a r s e f = by_equation
-
-pub laws_choose : OneAnswer laws_stated.choose.ended laws.choose.Reads.Learnt
-laws_choose κs a r s e f = by_equation
+pub laws_ensure : OneAnswer laws_stated.ensure.ended laws.ensure.Reads.Learnt
+laws_ensure κs a r s e f = by_number
 
 pub laws_in_range : OneAnswer laws_stated.in_range.ended laws.in_range.Reads.Learnt
 laws_in_range κs a r s e f = by_equation
-
-pub laws_unless : OneAnswer laws_stated.unless.ended laws.unless.Reads.Learnt
-laws_unless κs a r s e f = by_equation
-
-pub laws_or_else : OneAnswer laws_stated.or_else.ended laws.or_else.Reads.Learnt
-laws_or_else κs a r s e f = by_equation
-
-pub laws_order_of : OneAnswer laws_stated.order_of.ended laws.order_of.Reads.Learnt
-laws_order_of κs a r s e f = by_equation
-
-pub laws_is_less : OneAnswer laws_stated.is_less.ended laws.is_less.Reads.Learnt
-laws_is_less κs a r s e f = by_equation
-
-pub laws_is_same : OneAnswer laws_stated.is_same.ended laws.is_same.Reads.Learnt
-laws_is_same κs a r s e f = by_equation
-
-pub laws_then_by : OneAnswer laws_stated.then_by.ended laws.then_by.Reads.Learnt
-laws_then_by κs a r s e f = by_equation
 
 -- dates
 pub dates_is_leap : OneAnswer dates_stated.is_leap.ended dates.is_leap.Reads.Learnt
@@ -111,12 +111,6 @@ pub dates_is_day : OneAnswer dates_stated.is_day.ended dates.is_day.Reads.Learnt
 dates_is_day κs a r s e f = by_equation
 
 -- codes
-pub codes_same_code : OneAnswer codes_stated.same_code.ended codes.same_code.Reads.Learnt
-codes_same_code κs a r s e f = by_equation
-
-pub codes_compare_codes : OneAnswer codes_stated.compare_codes.ended codes.compare_codes.Reads.Learnt
-codes_compare_codes κs a r s e f = by_equation
-
 pub codes_names_stock : OneAnswer codes_stated.names_stock.ended codes.names_stock.Reads.Learnt
 codes_names_stock κs a r s e f = by_equation
 
@@ -151,8 +145,8 @@ legs_fits_ratio κs a r s e f = by_equation
 pub series_nature_suits : OneAnswer series_stated.nature_suits.ended series.nature_suits.Reads.Learnt
 series_nature_suits κs a r s e f = by_equation
 
-pub series_series_number : OneAnswer series_stated.series_number.ended series.series_number.Reads.Learnt
-series_series_number κs a r s e f = by_equation
+pub series_check : OneAnswer series_stated.check.ended series.check.Reads.Learnt
+series_check κs a r s e f = by_number
 
 pub series_is_future : OneAnswer series_stated.is_future.ended series.is_future.Reads.Learnt
 series_is_future κs a r s e f = by_equation
@@ -207,8 +201,8 @@ legs_one_to_one κs a r s e f = by_equation
 pub pairing_parts_of : OneAnswer pairing_stated.parts_of.ended pairing.parts_of.Reads.Learnt
 pairing_parts_of κs a r s e f = by_equation
 
-pub pairing_pair_number : OneAnswer pairing_stated.pair_number.ended pairing.pair_number.Reads.Learnt
-pairing_pair_number κs a r s e f = by_equation
+pub pairing_check : OneAnswer pairing_stated.check.ended pairing.check.Reads.Learnt
+pairing_check κs a r s e f = by_number
 
 pub pairing_may_stand : OneAnswer pairing_stated.may_stand.ended pairing.may_stand.Reads.Learnt
 pairing_may_stand κs a r s e f = by_equation
@@ -269,29 +263,25 @@ places_holding_in κs a r s e f = by_equation
 pub places_pair_in : OneAnswer places_stated.pair_in.ended places.pair_in.Reads.Learnt
 places_pair_in κs a r s e f = by_equation
 
-pub places_find_holding : OneAnswer places_stated.find_holding.ended places.find_holding.Reads.Learnt
-places_find_holding κs a r s e f = by_equation
+-- of any type of row
+module _ (R : RattleType) (LR : Laws R) (copies : IsCopy R) (row : Row.Ghosts R.Denot) (d1 : Dict) (clone : Clone.Ghosts R.Denot) (d2 : Dict) where
+  pub places_row_in : OneAnswer (places_stated.row_in.ended R row d1 clone d2) (places.row_in.Reads.Learnt R LR copies row d1 clone d2)
+  places_row_in κs a r s e f = by_equation
 
-pub places_find_pair : OneAnswer places_stated.find_pair.ended places.find_pair.Reads.Learnt
-places_find_pair κs a r s e f = by_equation
+  pub places_find : OneAnswer (places_stated.find.ended R row d1 clone d2) (places.find.Reads.Learnt R LR copies row d1 clone d2)
+  places_find κs a r s e f = by_equation
 
-pub places_insert_holding : OneAnswer places_stated.insert_holding.ended places.insert_holding.Reads.Learnt
-places_insert_holding κs a r s e f = by_equation
+  pub places_insert : OneAnswer (places_stated.insert.ended R row d1 clone d2) (places.insert.Reads.Learnt R LR copies row d1 clone d2)
+  places_insert κs a r s e f = by_writing (λ b. (b, _))
 
-pub places_insert_pair : OneAnswer places_stated.insert_pair.ended places.insert_pair.Reads.Learnt
-places_insert_pair κs a r s e f = by_equation
+  pub places_remove : OneAnswer (places_stated.remove.ended R row d1 clone d2) (places.remove.Reads.Learnt R LR copies row d1 clone d2)
+  places_remove κs a r s e f = by_writing (λ b. (b, _))
 
-pub places_remove_holding : OneAnswer places_stated.remove_holding.ended places.remove_holding.Reads.Learnt
-places_remove_holding κs a r s e f = by_equation
+  pub places_set : OneAnswer (places_stated.set.ended R row d1 clone d2) (places.set.Reads.Learnt R LR copies row d1 clone d2)
+  places_set κs a r s e f = by_writing (λ b. (b, _))
 
-pub places_remove_pair : OneAnswer places_stated.remove_pair.ended places.remove_pair.Reads.Learnt
-places_remove_pair κs a r s e f = by_equation
-
-pub places_set_holding : OneAnswer places_stated.set_holding.ended places.set_holding.Reads.Learnt
-places_set_holding κs a r s e f = by_equation
-
-pub places_set_pair : OneAnswer places_stated.set_pair.ended places.set_pair.Reads.Learnt
-places_set_pair κs a r s e f = by_equation
+  pub places_keep : OneAnswer (places_stated.keep.ended R row d1 clone d2) (places.keep.Reads.Learnt R LR copies row d1 clone d2)
+  places_keep κs a r s e f = by_equations (λ b. (b, _))
 
 -- rules
 pub rules_account_fits : OneAnswer rules_stated.account_fits.ended rules.account_fits.Reads.Learnt
@@ -316,9 +306,6 @@ pub rules_pairs_end : OneAnswer rules_stated.pairs_end.ended rules.pairs_end.Rea
 rules_pairs_end κs a r s e f = by_equation
 
 -- halving
-pub halving_lower : OneAnswer halving_stated.lower.ended halving.lower.Reads.Learnt
-halving_lower κs a r s e f = by_equation
-
 pub halving_place_of : OneAnswer halving_stated.place_of.ended halving.place_of.Reads.Learnt
 halving_place_of κs a r s e f = by_equation
 
@@ -337,23 +324,23 @@ sound_is_sound κs a r s e f = by_equation
 
 -- moves
 pub moves_make : OneAnswer moves_stated.make.ended moves.make.Reads.Learnt
-moves_make κs a r s e f = by_equation
+moves_make κs a r s e f = by_image (outcome_in _) (one_outcome _)
 
 pub moves_open : OneAnswer moves_stated.open.ended moves.open.Reads.Learnt
-moves_open κs a r s e f = by_equation
+moves_open κs a r s e f = by_image (outcome_in _) (one_outcome _)
 
 pub moves_close : OneAnswer moves_stated.close.ended moves.close.Reads.Learnt
-moves_close κs a r s e f = by_equation
+moves_close κs a r s e f = by_image (outcome_in _) (one_outcome _)
 
 pub moves_turn : OneAnswer moves_stated.turn.ended moves.turn.Reads.Learnt
-moves_turn κs a r s e f = by_equation
+moves_turn κs a r s e f = by_image (outcome_in _) (one_outcome _)
 
 -- ties
 pub ties_pair : OneAnswer ties_stated.pair.ended ties.pair.Reads.Learnt
-ties_pair κs a r s e f = by_equation
+ties_pair κs a r s e f = by_image (outcome_in _) (one_outcome _)
 
 pub ties_split : OneAnswer ties_stated.split.ended ties.split.Reads.Learnt
-ties_split κs a r s e f = by_equation
+ties_split κs a r s e f = by_image (outcome_in _) (one_outcome _)
 
 -- digits
 pub digits_width_of : OneAnswer digits_stated.width_of.ended digits.width_of.Reads.Learnt
@@ -423,7 +410,7 @@ lines_series_behind κs a r s e f = by_equation
 
 -- printed
 pub printed_print : OneAnswer printed_stated.print.ended printed.print.Reads.Learnt
-printed_print κs a r s e f = by_equations (λ b. (_, (b, _)))
+printed_print κs a r s e f = by_images printed_in one_printed (λ b. (_, (b, _)))
 
 -- book_lines
 pub book_lines_letter_of : OneAnswer book_lines_stated.letter_of.ended book_lines.letter_of.Reads.Learnt
@@ -450,12 +437,12 @@ book_lines_holding_of κs a r s e f = by_equation
 pub book_lines_pair_of : OneAnswer book_lines_stated.pair_of.ended book_lines.pair_of.Reads.Learnt
 book_lines_pair_of κs a r s e f = by_equation
 
-pub book_lines_line_number : OneAnswer book_lines_stated.line_number.ended book_lines.line_number.Reads.Learnt
-book_lines_line_number κs a r s e f = by_equation
+pub book_lines_check_line : OneAnswer book_lines_stated.check_line.ended book_lines.check_line.Reads.Learnt
+book_lines_check_line κs a r s e f = by_number
 
 -- reading
 pub reading_read : OneAnswer reading_stated.read.ended reading.read.Reads.Learnt
-reading_read κs a r s e f = by_equation
+reading_read κs a r s e f = by_image answer_in one_reading
 
 -- call_lines
 pub call_lines_work : OneAnswer call_lines_stated.work.ended call_lines.work.Reads.Learnt
@@ -474,15 +461,6 @@ rounding_half_up κs a r s e f = by_equation
 pub rounding_to_dollar : OneAnswer rounding_stated.to_dollar.ended rounding.to_dollar.Reads.Learnt
 rounding_to_dollar κs a r s e f = by_equation
 
-pub rounding_larger : OneAnswer rounding_stated.larger.ended rounding.larger.Reads.Learnt
-rounding_larger κs a r s e f = by_equation
-
-pub rounding_less : OneAnswer rounding_stated.less.ended rounding.less.Reads.Learnt
-rounding_less κs a r s e f = by_equation
-
-pub rounding_apart : OneAnswer rounding_stated.apart.ended rounding.apart.Reads.Learnt
-rounding_apart κs a r s e f = by_equation
-
 -- levels
 pub levels_same_at_all : OneAnswer levels_stated.same_at_all.ended levels.same_at_all.Reads.Learnt
 levels_same_at_all κs a r s e f = by_equation
@@ -497,10 +475,10 @@ pub levels_rates_fit : OneAnswer levels_stated.rates_fit.ended levels.rates_fit.
 levels_rates_fit κs a r s e f = by_equation
 
 pub levels_fixed_levels : OneAnswer levels_stated.fixed_levels.ended levels.fixed_levels.Reads.Learnt
-levels_fixed_levels κs a r s e f = by_equation
+levels_fixed_levels κs a r s e f = by_image answer_of one_levels
 
 pub levels_stock_rates : OneAnswer levels_stated.stock_rates.ended levels.stock_rates.Reads.Learnt
-levels_stock_rates κs a r s e f = by_equation
+levels_stock_rates κs a r s e f = by_image answer_of one_levels
 
 pub levels_halves : OneAnswer levels_stated.halves.ended levels.halves.Reads.Learnt
 levels_halves κs a r s e f = by_equation
@@ -541,17 +519,14 @@ amounts_stock_terms κs a r s e f = by_equation
 
 -- units
 pub units_unit_margin : OneAnswer units_stated.unit_margin.ended units.unit_margin.Reads.Learnt
-units_unit_margin κs a r s e f = by_equation
+units_unit_margin κs a r s e f = by_image answer_of one_levels
 
 -- sheets
-pub sheets_some_amount : OneAnswer sheets_stated.some_amount.ended sheets.some_amount.Reads.Learnt
-sheets_some_amount κs a r s e f = by_equation
-
 pub sheets_no_stock : OneAnswer sheets_stated.no_stock.ended sheets.no_stock.Reads.Learnt
 sheets_no_stock κs a r s e f = by_equation
 
 pub sheets_empty_sheet : OneAnswer sheets_stated.empty_sheet.ended sheets.empty_sheet.Reads.Learnt
-sheets_empty_sheet κs a r s e f = by_equation
+sheets_empty_sheet κs a r s e f = by_image sheet_in one_sheet
 
 pub sheets_future_place : OneAnswer sheets_stated.future_place.ended sheets.future_place.Reads.Learnt
 sheets_future_place κs a r s e f = by_equation
@@ -608,25 +583,25 @@ sheet_lines_stock_row κs a r s e f = by_equation
 pub sheet_lines_price_row : OneAnswer sheet_lines_stated.price_row.ended sheet_lines.price_row.Reads.Learnt
 sheet_lines_price_row κs a r s e f = by_equation
 
-pub sheet_lines_line_number : OneAnswer sheet_lines_stated.line_number.ended sheet_lines.line_number.Reads.Learnt
-sheet_lines_line_number κs a r s e f = by_equation
+pub sheet_lines_check : OneAnswer sheet_lines_stated.check.ended sheet_lines.check.Reads.Learnt
+sheet_lines_check κs a r s e f = by_number
 
 -- price_lines
 pub price_lines_number_cell : OneAnswer price_lines_stated.number_cell.ended price_lines.number_cell.Reads.Learnt
 price_lines_number_cell κs a r s e f = by_equation
 
 pub price_lines_head_at : OneAnswer price_lines_stated.head_at.ended price_lines.head_at.Reads.Learnt
-price_lines_head_at κs a r s e f = by_equation
+price_lines_head_at κs a r s e f = by_image head_of one_head
 
 pub price_lines_next_figures : OneAnswer price_lines_stated.next_figures.ended price_lines.next_figures.Reads.Learnt
-price_lines_next_figures κs a r s e f = by_equation
+price_lines_next_figures κs a r s e f = by_image figures_of one_figures
 
 -- checking
 pub checking_read : OneAnswer checking_stated.read.ended checking.read.Reads.Learnt
-checking_read κs a r s e f = by_equation
+checking_read κs a r s e f = by_image sheet_in one_sheet
 
 pub checking_check : OneAnswer checking_stated.check.ended checking.check.Reads.Learnt
-checking_check κs a r s e f = by_equation
+checking_check κs a r s e f = by_image verdict_in one_check
 
 -- quotes
 pub quotes_quote_for : OneAnswer quotes_stated.quote_for.ended quotes.quote_for.Reads.Learnt
@@ -637,11 +612,11 @@ quotes_no_quote κs a r s e f = by_equation
 
 -- account
 pub account_margin_on : OneAnswer account_stated.margin_on.ended account.margin_on.Reads.Learnt
-account_margin_on κs a r s e f = by_equation
+account_margin_on κs a r s e f = by_image margin_in one_margin
 
 -- reports
 pub reports_margin_of : OneAnswer reports_stated.margin_of.ended reports.margin_of.Reads.Learnt
-reports_margin_of κs a r s e f = by_equation
+reports_margin_of κs a r s e f = by_image margin_in one_margin
 
 pub reports_line_of : OneAnswer reports_stated.line_of.ended reports.line_of.Reads.Learnt
 reports_line_of κs a r s e f = by_equation

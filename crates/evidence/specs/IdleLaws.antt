@@ -21,11 +21,10 @@ use Rattle.history.proofs.IdleLaws.{seen}
 use Rattle.lines.specs.Pieces.{lf, split_on, list_of, fields_of}
 use Rattle.printed.specs.Printed.{text_of}
 use Rattle.book_lines.specs.Lines.{line_in, line_from, book_line, checks_by}
-use Rattle.reading.specs.declared.Answer.{Answer}
-use Rattle.reading.specs.Reading.{line_checks, refused_at, read_as, read_lines, read_book}
+use Rattle.reading.specs.Reading.{Answer, line_checks, refused_at, read_as, read_lines, read_book}
 use Rattle.trip.proofs.TripLaws.{read_print}
 use Rattle.lines.specs.Fields.{has_form, cells_of}
-use Rattle.checking.specs.declared.Verdict.{Verdict}
+use Rattle.checking.specs.Reading.{Verdict}
 use Rattle.sheet_lines.specs.Lines.{letter_in, form_of, said, line_by, sheet_line, own_checks, checks_by as sheetBy, line_from as sheetFrom, line_checks as sheetChecks}
 use Rattle.checking.specs.Reading.{judge_lines, judged, check_text, refused_at as refusedSheet}
 

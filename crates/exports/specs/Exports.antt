@@ -2,10 +2,9 @@
 -- with its line or length as one number, and the bytes of the lent buffers.
 use Rattle.std.specs.Prelude.{List, ◌++◌, ℕ, ◌+◌, ◌*◌, eqb, leb, length, drop}
 use Rattle.laws.specs.Truth.{pick}
-use Rattle.reading.specs.declared.Answer.{Answer}
-use Rattle.checking.specs.declared.Verdict.{Verdict}
-use Rattle.printed.specs.declared.Printed.{Printed}
-use Rattle.printed.specs.Printed.{print_answer, print_exit}
+use Rattle.reading.specs.Reading.{Answer}
+use Rattle.checking.specs.Reading.{Verdict}
+use Rattle.printed.specs.Printed.{Printed, print_answer, print_exit}
 
 -- a number above 32 bits, and a line or a length below
 unfoldable pub coded : ℕ → ℕ → ℕ

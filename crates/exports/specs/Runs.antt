@@ -3,7 +3,7 @@
 use Rattle.std.specs.Prelude.{List, ℕ, ◌/◌, ◌%◌, eqb, leb, length}
 use Rattle.laws.specs.Truth.{pick, both}
 use Rattle.rows.specs.declared.Book.{Book}
-use Rattle.reading.specs.declared.Answer.{Answer}
+use Rattle.reading.specs.Reading.{Answer}
 use Rattle.printed.specs.Printed.{print_answer, print_exit}
 use Rattle.exports.specs.Exports.{coded, read_coded, print_coded}
 use Rattle.exports.specs.Script.{book_after, numbers_after}

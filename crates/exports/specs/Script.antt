@@ -8,7 +8,7 @@ use Rattle.series.specs.declared.Side.{Side}
 use Rattle.series.specs.declared.Side.TheVariants.{Long, Short}
 use Rattle.rows.specs.declared.Pair.{Pair}
 use Rattle.rows.specs.declared.Book.{Book}
-use Rattle.calls.specs.declared.Outcome.{Outcome}
+use Rattle.calls.specs.Outcome.{Outcome}
 use Rattle.calls.specs.Calls.{make_answer, open_answer, close_answer, pair_answer, split_answer, turn_answer}
 
 -- The thirteen words of a call, by their places: which call it is; code, date, nature and strike of the first series and of the second; then,

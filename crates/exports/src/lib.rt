@@ -2,77 +2,93 @@
 #![tactic(auto)]
 
 ghost use Rattle.std.specs.Prelude.{◌≡◌, ◌%◌, ◌/◌, ◌<◌, ◌≤◌, get_or, length};
+ghost use Rattle.laws.specs.Refusals.{number_in};
+ghost use Rattle.calls.specs.Calls.{outcome};
 ghost use Rattle.put.specs.Output.{output_of};
 ghost use Rattle.reading.specs.Reading.{read_book};
 ghost use Rattle.checking.specs.Reading.{check_text};
 ghost use Rattle.reports.specs.Statement.{statement_text};
-ghost use Rattle.exports.specs.Exports.{coded, read_coded, check_coded, printed_of, printed_exit, line_coded, line_exit};
+ghost use Rattle.printed.specs.Printed.{printed_in};
+ghost use Rattle.exports.specs.Exports.{coded, read_coded, check_coded, print_coded, printed_of, printed_exit, line_coded, line_exit};
 ghost use Rattle.exports.specs.Script.{code_said, identity_said, nature_said, series_said, side_said, pair_said, call_said, book_after, numbers_after};
 ghost use Rattle.exports.specs.Runs.{script_number, run_coded, run_numbers, run_exit};
 
-use calls::Outcome;
+use laws::Refusal;
 use put::Output;
 use rows::{Book, Pair};
 use series::{Nature, Series, Side};
 
 // A number, and a line or a length, as one number.
+#[tactic(auto, unfolding(crate::specs::Exports::coded))]
 fn code_of(number: u8, rest: u32) -> u64
     ensures { result ≡ coded number rest }
 {
-    number as u64 * 4294967296 + rest as u64
+    u64::from(number) * 4294967296 + u64::from(rest)
 }
 
 // Read the text of a book: number and line.
 pub fn sillauger_read(text: &[u8]) -> u64
     ensures { result ≡ read_coded (read_book text.now) }
 {
-    let a = reading::read(text);
-    code_of(a.number, a.line)
+    match reading::read(text) {
+        Ok(_) => code_of(0, 0),
+        Err(f) => code_of(f.refusal.number(), f.line),
+    }
 }
 
 // Check the text of a sheet: number and line.
 pub fn sillauger_check(sheet: &[u8]) -> u64
     ensures { result ≡ check_coded (check_text sheet.now) }
 {
-    let v = checking::check(sheet);
-    code_of(v.number, v.line)
+    match checking::check(sheet) {
+        Ok(()) => code_of(0, 0),
+        Err(fault) => code_of(fault.refusal.number(), fault.line),
+    }
+}
+
+// What a print answers: number and length.
+#[tactic(auto, unfolding(crate::specs::Exports::print_coded))]
+fn print_code(p: Result<usize, Refusal>) -> u64
+    requires { (printed_in p).length < 4294967296 }
+    ensures { result ≡ print_coded (printed_in p) }
+{
+    match p {
+        Ok(n) => code_of(0, n as u32),
+        Err(refusal) => code_of(refusal.number(), 0),
+    }
 }
 
 // Read the text of a book and print it, so many times over the same bytes: number, and length or line.
 pub fn sillauger_print(text: &[u8], times: u32, out: &mut [u8]) -> u64
     ensures { (result ≡ printed_of (read_book text.now) out.old) × (out.new ≡ printed_exit (read_book text.now) out.old) }
 {
-    let a = reading::read(text);
-    if a.number != 0 {
-        return code_of(a.number, a.line);
+    match reading::read(text) {
+        Ok(b) => {
+            let mut p = printed::print(b, out);
+            for _ in 1..times {
+                p = printed::print(b, out);
+            }
+            print_code(p)
+        }
+        Err(f) => code_of(f.refusal.number(), f.line),
     }
-    let b = a.book;
-    let mut p = printed::print(b, out);
-    let mut i: u32 = 1;
-    while i < times {
-        p = printed::print(b, out);
-        i += 1;
-    }
-    code_of(p.number, p.length as u32)
 }
 
 // The line that the margin program prints of two texts, the margin worked so many times.
 fn stated(book: &[u8], sheet: &[u8], times: u32) -> Output
     ensures { result ≡ output_of (statement_text book.now sheet.now) }
 {
-    let a = reading::read(book);
-    if a.number != 0 {
-        return put::refusal(a.number, a.line);
+    match reading::read(book) {
+        Ok(b) => {
+            let s = checking::read(sheet);
+            let mut m = account::margin_on(b, s);
+            for _ in 1..times {
+                m = account::margin_on(b, s);
+            }
+            reports::line_of(b, m)
+        }
+        Err(f) => put::refusal(f.refusal.number(), f.line),
     }
-    let b = a.book;
-    let s = checking::read(sheet);
-    let mut m = account::margin_on(b, s);
-    let mut i: u32 = 1;
-    while i < times {
-        m = account::margin_on(b, s);
-        i += 1;
-    }
-    reports::line_of(b, m)
 }
 
 // That line in the buffer: 0 and its length, or 15 where the buffer is too short, which then keeps its bytes.
@@ -118,7 +134,7 @@ const UNITS: usize = 12;
 fn word(words: &[u32], at: usize) -> u32
     ensures { result ≡ get_or words.now at 0 }
 {
-    if at < words.len() { words[at] } else { 0 }
+    words.get(at).copied().unwrap_or(0)
 }
 
 fn byte_of(w: u32) -> u8
@@ -128,6 +144,7 @@ fn byte_of(w: u32) -> u8
 }
 
 // The three bytes of a code, the first highest; none where the word has a fourth.
+#[tactic(auto, unfolding(crate::specs::Script::code_said))]
 fn code_said(w: u32) -> [u8; 3]
     ensures { result ≡ code_said w }
 {
@@ -138,23 +155,23 @@ fn code_said(w: u32) -> [u8; 3]
 }
 
 // An identity; 0, which is none, where the word is no byte.
+#[tactic(auto, unfolding(crate::specs::Script::identity_said))]
 fn identity_said(w: u32) -> u8
     ensures { result ≡ identity_said w }
 {
-    if w < 256 { w as u8 } else { 0 }
+    u8::try_from(w).unwrap_or(0)
 }
 
 // What the words of a call say.
+#[tactic(auto, unfolding(crate::specs::Script::nature_said))]
 fn nature_said(mark: u32, strike: u32) -> Nature
     ensures { result ≡ nature_said mark strike }
 {
-    if mark == 0 {
-        return Nature::Future;
+    match mark {
+        0 => Nature::Future,
+        1 => Nature::Call(strike),
+        _ => Nature::Put(strike),
     }
-    if mark == 1 {
-        return Nature::Call(strike);
-    }
-    Nature::Put(strike)
 }
 
 fn series_said(words: &[u32], at: usize) -> Series
@@ -169,13 +186,11 @@ fn series_said(words: &[u32], at: usize) -> Series
     }
 }
 
+#[tactic(auto, unfolding(crate::specs::Script::side_said))]
 fn side_said(w: u32) -> Side
     ensures { result ≡ side_said w }
 {
-    if w == 0 {
-        return Side::Long;
-    }
-    Side::Short
+    if w == 0 { Side::Long } else { Side::Short }
 }
 
 fn pair_said(words: &[u32], at: usize) -> Pair
@@ -192,41 +207,41 @@ fn pair_said(words: &[u32], at: usize) -> Pair
     }
 }
 
-// The call that the words from a place on say, made on a book.
-fn call_said(b: Book, words: &[u32], at: usize) -> Outcome
+// The call that the words from a place on say, made on the book. A refusal leaves the book as it is; a make that is refused leaves the empty one.
+fn call_said(b: &mut Book, words: &[u32], at: usize) -> Result<(), Refusal>
     requires { at < 9223372036854775000 }
-    ensures { result ≡ call_said b words.now at }
+    ensures { outcome (number_in result) b.new ≡ call_said b.old words.now at }
 {
-    let call = word(words, at + CALL);
-    if call == 0 {
-        let identity = identity_said(word(words, at + IDENTITY));
-        return moves::make(word(words, at + ACCOUNT), identity, word(words, at + DAY));
-    }
-    if call == 1 {
-        let side = side_said(word(words, at + SIDE));
-        return moves::open(
-            b,
-            series_said(words, at + FIRST),
-            side,
-            word(words, at + LOTS),
-        );
-    }
-    if call == 2 {
-        let side = side_said(word(words, at + SIDE));
-        return moves::close(
-            b,
-            series_said(words, at + FIRST),
-            side,
-            word(words, at + LOTS),
-        );
-    }
-    if call == 3 {
-        return ties::pair(b, pair_said(words, at));
-    }
-    if call == 4 {
-        return ties::split(b, pair_said(words, at));
-    }
-    moves::turn(b, word(words, at + DAY))
+    let answer = match word(words, at + CALL) {
+        0 => {
+            *b = rows::empty_book(0, b'0', 20000101);
+            let identity = identity_said(word(words, at + IDENTITY));
+            moves::make(word(words, at + ACCOUNT), identity, word(words, at + DAY))
+        }
+        1 => {
+            let side = side_said(word(words, at + SIDE));
+            moves::open(
+                *b,
+                series_said(words, at + FIRST),
+                side,
+                word(words, at + LOTS),
+            )
+        }
+        2 => {
+            let side = side_said(word(words, at + SIDE));
+            moves::close(
+                *b,
+                series_said(words, at + FIRST),
+                side,
+                word(words, at + LOTS),
+            )
+        }
+        3 => ties::pair(*b, pair_said(words, at)),
+        4 => ties::split(*b, pair_said(words, at)),
+        _ => moves::turn(*b, word(words, at + DAY)),
+    };
+    *b = answer?;
+    Ok(())
 }
 
 // The calls of a script on a book: the book that results, and each call's number at its place.
@@ -234,25 +249,21 @@ fn run_calls(start: Book, words: &[u32], numbers: &mut [u8]) -> Book
     requires { length words.now / 13 ≤ length numbers.old }
     ensures { (result ≡ book_after (length words.now / 13) words.now 0 start) × (numbers.new ≡ numbers_after (length words.now / 13) words.now 0 start numbers.old) }
 {
-    let calls = words.len() / 13;
     let mut b = start;
-    let mut i: usize = 0;
-    while i < calls {
-        let o = call_said(b, words, 13 * i);
-        let next = o.book;
-        b = next;
-        numbers[i] = o.number;
-        i += 1;
+    for i in 0..words.len() / 13 {
+        let answer = call_said(&mut b, words, 13 * i);
+        numbers[i] = answer.err().map_or(0, Refusal::number);
     }
     b
 }
 
-// What is wrong with the words of a script, or with the buffers for what it answers, or 0.
-fn script_number(words: usize, cells: usize, room: usize) -> u8
-    ensures { result ≡ script_number words cells room }
+// What is wrong with the words of a script, or with the buffers for what it answers.
+#[tactic(auto, unfolding(crate::specs::Runs::script_number))]
+fn check_script(words: usize, cells: usize, room: usize) -> Result<(), Refusal>
+    ensures { number_in result ≡ script_number words cells room }
 {
-    let enough = laws::and(words / 13 <= cells, 16384 <= room);
-    laws::unless(1, words % 13 == 0, laws::unless(15, enough, 0))
+    laws::ensure(words % 13 == 0, Refusal::Malformed)?;
+    laws::ensure(words / 13 <= cells && 16384 <= room, Refusal::BufferShort)
 }
 
 // A script on the book of a text: each call's number, and the text of the book that results, 0 and its length; or why nothing was done: the
@@ -260,16 +271,14 @@ fn script_number(words: usize, cells: usize, room: usize) -> u8
 pub fn sillauger_run(book: &[u8], words: &[u32], numbers: &mut [u8], out: &mut [u8]) -> u64
     ensures { (result ≡ run_coded (read_book book.now) words.now numbers.old out.old) × ((numbers.new ≡ run_numbers (read_book book.now) words.now numbers.old out.old) × (out.new ≡ run_exit (read_book book.now) words.now numbers.old out.old)) }
 {
-    let a = reading::read(book);
-    if a.number != 0 {
-        return code_of(a.number, a.line);
+    match reading::read(book) {
+        Ok(start) => match check_script(words.len(), numbers.len(), out.len()) {
+            Ok(()) => {
+                let b = run_calls(start, words, numbers);
+                print_code(printed::print(b, out))
+            }
+            Err(refusal) => code_of(refusal.number(), 0),
+        },
+        Err(f) => code_of(f.refusal.number(), f.line),
     }
-    let number = script_number(words.len(), numbers.len(), out.len());
-    if number != 0 {
-        return code_of(number, 0);
-    }
-    let start = a.book;
-    let b = run_calls(start, words, numbers);
-    let p = printed::print(b, out);
-    code_of(p.number, p.length as u32)
 }

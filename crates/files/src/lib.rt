@@ -1,19 +1,12 @@
 // Files read by name.
 #![tactic(auto)]
 
-ghost use Rattle.std.specs.Prelude.{◌≡◌, false, ◌<◌, ◌≤◌, length, take, IfOk, OnErr};
+ghost use Rattle.std.specs.Prelude.{◌≡◌, ◌<◌, ◌≤◌, length, take, unwrap_or, IfOk, OnErr};
 ghost use Rattle.std.specs.Io.KnownBytes.{Consumes, IsAtEnd};
 
 use std::io::Read;
 use std::rt::Files;
 use std::{fs, io};
-
-// Whether a file opened, and how many of its bytes were read.
-#[derive(Clone, Copy)]
-pub struct Loaded {
-    pub opened: bool,
-    pub count: usize,
-}
 
 // The file of this name, if it opens. A name that is not UTF-8 opens none.
 fn open<R: Files>(rt: &R, name: &[u8]) -> Option<R::File> {
@@ -38,23 +31,15 @@ fn fill<R: Read>(reader: &mut R, buffer: &mut [u8]) -> io::Result<usize>
     Ok(at)
 }
 
-// Reads the file of this name to the start of the buffer, as far as it has room. A file that will not open is empty, and the buffer keeps its
-// bytes. A read that fails is the error.
-pub fn load<R: Files>(rt: &R, name: &[u8], buffer: &mut [u8]) -> io::Result<Loaded>
-    ensures in_bounds { IfOk result (λ loaded. loaded.count ≤ length buffer.new) }
-    ensures unopened { IfOk result (λ loaded. loaded.opened ≡ false → loaded.count ≡ 0) }
-    ensures kept { IfOk result (λ loaded. loaded.opened ≡ false → buffer.new ≡ buffer.old) }
+// Reads the file of this name to the start of the buffer, as far as it has room, and answers how many bytes were read. Of a file that will
+// not open none are, and the buffer keeps its bytes. A read that fails is the error.
+pub fn load<R: Files>(rt: &R, name: &[u8], buffer: &mut [u8]) -> io::Result<Option<usize>>
+    ensures in_bounds { IfOk result (λ loaded. unwrap_or loaded 0 ≤ length buffer.new) }
+    ensures kept { IfOk result (λ loaded. loaded ≡ None → buffer.new ≡ buffer.old) }
     ensures err { OnErr result (length buffer.new ≡ length buffer.old) }
 {
     let Some(mut file) = open(rt, name) else {
-        return Ok(Loaded {
-            opened: false,
-            count: 0,
-        });
+        return Ok(None);
     };
-    let count = fill(&mut file, buffer)?;
-    Ok(Loaded {
-        opened: true,
-        count,
-    })
+    Ok(Some(fill(&mut file, buffer)?))
 }

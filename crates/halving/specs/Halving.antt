@@ -1,7 +1,7 @@
 -- A key is looked for among keys that rise: the half that cannot hold it is given up, step after step. HalvingLaws: the place that
 -- this comes to is that of the first key that is not before it.
 use Rattle.std.specs.Prelude.{◌≡◌, Bool, List, [], ◌∷◌, ℕ, zero, suc, ◌+◌, ◌-◌, ◌/◌, ◌<◌, ◌≤◌, min, ltb, get_or, length}
-use Rattle.laws.specs.declared.Order.TheVariants.{Less}
+use Rattle.std.specs.declared.cmp.Ordering.TheVariants.{Less}
 use Rattle.laws.specs.Truth.{pick, both}
 use Rattle.laws.specs.Bytes.{same_bytes}
 use Rattle.laws.specs.Order.{is_less, bytes_order}

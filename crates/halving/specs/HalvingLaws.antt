@@ -1,5 +1,5 @@
 -- Laws of halving: its loop, and that it finds the place of a key among keys that rise.
-use Rattle.std.specs.Prelude.{◌≡◌, Bool, get_or, length}
+use Rattle.std.specs.Prelude.{◌≡◌, Bool, ◌&&◌, eqb, Some, get_or, length}
 use Rattle.std.proofs.Math.Path.{refl, sym}
 use Rattle.std.proofs.Common.{ap, ◌∙◌, subst}
 use Rattle.std.proofs.Math.Bool.{true, false}
@@ -9,14 +9,15 @@ use native.Mathlib.Omega.{arith}
 use Rattle.std.proofs.Math.Decide.{dec_lt}
 use borrow.Author.Tests.{lt-ltb, le-ltb, ltb-true, ltb-false}
 use Rattle.std.proofs.Math.Dec.{ltb}
-use Rattle.laws.specs.declared.Order.{Order}
-use Rattle.laws.specs.declared.Order.TheVariants.{Less, Same}
+use Rattle.std.specs.declared.cmp.Ordering.{Ordering}
+use Rattle.std.specs.declared.cmp.Ordering.TheVariants.{Less, Equal, Greater}
+use Rattle.std.specs.Ordering.{nat_cmp, partial_lt, partial_ordering_then}
 use Rattle.laws.specs.Truth.{pick, both}
-use Rattle.laws.specs.TruthLaws.{both_true, by_test, picked, clash, false_unless}
+use Rattle.laws.specs.TruthLaws.{both_and, both_end, both_true, by_test, picked, clash, false_unless}
 use Rattle.laws.specs.Bytes.{same_bytes}
 use Rattle.laws.specs.ByteLaws.{are_same, same_self}
 use Rattle.laws.specs.Order.{order_of, is_less, then_by, bytes_order}
-use Rattle.laws.specs.OrderLaws.{is_less_lem, is_same_lem, is_more, split, text_before, not_before_self, is_less_says}
+use Rattle.laws.specs.OrderLaws.{is_less_lem, is_same_lem, is_more, split, then_same, text_before, not_before_self, is_less_says}
 use Rattle.halving.specs.Halving.{key_at, middle, halved, place_of, find_in, Rising, PlaceIs}
 
 -- Any number of steps that is not too small comes to the same place.
@@ -88,7 +89,7 @@ module _ {highs lows : List ℕ} {h l w low high : ℕ} (a : AtHalf highs lows (
   higher_behind q = half_down a lt (rw (sym (is_more q))) refl
 
   module _ (from : h ≤ get_or highs (middle low high) 0) (to : get_or highs (middle low high) 0 ≤ h) where
-    same_higher : Same ≡ order_of (get_or highs (middle low high) 0) h
+    same_higher : Equal ≡ order_of (get_or highs (middle low high) 0) h
     same_higher = is_same_lem (omega arith)
 
     pub lower_before : get_or lows (middle low high) 0 < l → AtHalf highs lows (h ∷ l ∷ []) w (middle low high + 1) high
@@ -99,8 +100,20 @@ module _ {highs lows : List ℕ} {h l w low high : ℕ} (a : AtHalf highs lows (
     unfolding bytes_order
     lower_behind q =
         half_down a lt
-        (rw (sym same_higher) (split (λ (o : Order). false ≡ is_less (then_by o Same)) (get_or lows (middle low high) 0) l (λ z. absurd (omega arith)) (λ z. refl) (λ z. refl)))
+        (rw (sym same_higher) (split (λ (o : Ordering). false ≡ is_less (then_by o Equal)) (get_or lows (middle low high) 0) l (λ z. absurd (omega arith)) (λ z. refl) (λ z. refl)))
         refl
+
+-- Two keys, as `<` takes them: by the higher half, or by the lower one where the higher ones are the same.
+pub pair_before : (a b c d : ℕ) → partial_lt {X = ℕ × ℕ} (λ x y. partial_ordering_then (Some (nat_cmp x.0 y.0)) (Some (nat_cmp x.1 y.1))) (a, b) (c, d) ≡ is_less (bytes_order (a ∷ b ∷ []) (c ∷ d ∷ []))
+unfolding bytes_order order_of
+pair_before a b c d = rw then_same (go (nat_cmp a c) (nat_cmp b d))
+  where
+    go : (o p : Ordering) → partial_lt {X = Unit} (λ x y. partial_ordering_then (Some o) (Some p)) tt tt ≡ is_less (then_by o p)
+    go Less p = refl
+    go Greater p = refl
+    go Equal Less = refl
+    go Equal Equal = refl
+    go Equal Greater = refl
 
 -- The key at the place that halving comes to, or that it is none.
 module _ (highs lows : List ℕ) (count high low : ℕ) {p top : ℕ} (is : p ≡ place_of highs lows count (high ∷ low ∷ [])) (room : top ≡ min count (min (length highs) (length lows))) where
@@ -125,6 +138,18 @@ module _ (highs lows : List ℕ) (count high low : ℕ) {p top : ℕ} (is : p �
 
   pub lows_differ : (get_or lows p 0 ≡ low → ⊥) → count ≡ find_in highs lows count (high ∷ low ∷ [])
   lows_differ n = find_other (λ e. n (ap (λ (l : List ℕ). get_or l 1 0) (are_same (key_at highs lows p) (high ∷ low ∷ []) e)))
+
+  -- The same by both halves at once, as `==` takes them.
+  module _ (lt : p < top) {t : Bool} (same : t ≡ (eqb (get_or highs p 0) high && eqb (get_or lows p 0) low)) where
+    by_pair : pick t p count ≡ find_in highs lows count (high ∷ low ∷ [])
+    unfolding find_in same_bytes
+    by_pair = rw (sym is, sym room, lt-ltb p top lt) (ap (λ (b : Bool). pick b p count) (same ∙ (rw both_end (sym (both_and (eqb (get_or highs p 0) high) (eqb (get_or lows p 0) low))))))
+
+    pub pair_here : t ≡ true → p ≡ find_in highs lows count (high ∷ low ∷ [])
+    pair_here e = rw e at by_pair
+
+    pub pair_other : t ≡ false → count ≡ find_in highs lows count (high ∷ low ∷ [])
+    pair_other e = rw e at by_pair
 
 -- Among keys that rise, the places below `low` are before the key and those from `high` on are not.
 record Between (highs lows : List ℕ) (n : ℕ) (k : List ℕ) (low high : ℕ) : Type 0 where

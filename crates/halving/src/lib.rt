@@ -1,38 +1,22 @@
 // Finding a key among keys that rise, by halving. A key is two numbers, the higher one first.
 #![tactic(auto)]
 
-ghost use Rattle.std.specs.Prelude.{◌≡◌, [], ◌∷◌, min};
+ghost use Rattle.std.specs.Prelude.{◌≡◌, [], ◌∷◌};
 ghost use Rattle.halving.specs.Halving.{place_of, find_in};
-
-// The lower of two numbers.
-pub fn lower(x: usize, y: usize) -> usize
-    ensures { result ≡ min x y }
-{
-    if x < y { x } else { y }
-}
 
 // The place among the first `count` keys where they stop being before the key, if they rise.
 pub fn place_of<'a>(highs: &'a [u64], lows: &'a [u64], count: usize, high: u64, low: u64) -> usize
     ensures { result ≡ place_of highs.now lows.now count (high ∷ low ∷ []) }
 {
     let mut from: usize = 0;
-    let mut to = lower(count, lower(highs.len(), lows.len()));
+    let mut to = count.min(highs.len()).min(lows.len());
     while from < to {
         let mid = from + (to - from) / 2;
-        let at = highs[mid];
-        if at < high {
+        if (highs[mid], lows[mid]) < (high, low) {
             from = mid + 1;
-            continue;
-        }
-        if high < at {
+        } else {
             to = mid;
-            continue;
         }
-        if lows[mid] < low {
-            from = mid + 1;
-            continue;
-        }
-        to = mid;
     }
     from
 }
@@ -42,14 +26,11 @@ pub fn find<'a>(highs: &'a [u64], lows: &'a [u64], count: usize, high: u64, low:
     ensures { result ≡ find_in highs.now lows.now count (high ∷ low ∷ []) }
 {
     let place = place_of(highs, lows, count, high, low);
-    if lower(count, lower(highs.len(), lows.len())) <= place {
-        return count;
+    if place < count.min(highs.len()).min(lows.len())
+        && (highs[place], lows[place]) == (high, low)
+    {
+        place
+    } else {
+        count
     }
-    if highs[place] != high {
-        return count;
-    }
-    if lows[place] != low {
-        return count;
-    }
-    place
 }

@@ -27,7 +27,7 @@ use Rattle.rows.specs.Book.{holdings_of, pairs_of, book_of, with_holdings, with_
 use Rattle.rows.specs.Rows.{series_rank, holding_rank, pair_rank, same_series, empty_holding, empty_pair, is_empty_series, is_empty_holding, is_empty_pair}
 use Rattle.rules.specs.Lots.{first_leg, second_leg, ties, tied_by, tied, total, free, units_of, leg_covered, pair_covered, covered}
 use Rattle.rules.specs.Rules.{counts_fit, good_lots, good_holding, good_pair, rows_sound, holdings_sound, pairs_sound, book_rules, sound_book}
-use Rattle.calls.specs.declared.Outcome.{Outcome}
+use Rattle.calls.specs.Outcome.{Outcome}
 use Rattle.calls.specs.Calls.{answered, make_checks, make_answer, book_checks, held_of, open_checks, opened, open_answer, close_checks, closed, close_answer, leg_free, pairing_checks, joined, pair_answer, split_checks, parted, split_answer, turn_checks, turn_answer}
 use Rattle.history.specs.History.{BookCall, open_lots, close_lots, pair_units, split_units, turn_day, step, checks_of, run, accepted}
 use Rattle.history.specs.Idle.{sample, october, november, spread, one_opened, two_opened, then_paired, then_split, then_closed, then_turned}

@@ -8,7 +8,7 @@ use Rattle.laws.specs.Truth.{pick}
 use Rattle.laws.specs.TruthLaws.{by_test, same_test}
 use Rattle.laws.specs.Checks.{all_pass}
 use Rattle.rows.specs.declared.Book.{Book}
-use Rattle.calls.specs.declared.Outcome.{Outcome}
+use Rattle.calls.specs.Outcome.{Outcome}
 use Rattle.calls.specs.Calls.{make_answer}
 use Rattle.history.specs.History.{BookCall, step, checks_of, made, run, accepted}
 use Rattle.history.specs.Demand.{AsCounted, Demand3}

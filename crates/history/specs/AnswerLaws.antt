@@ -12,7 +12,7 @@ use Rattle.pairing.specs.Rules.{pair_checks}
 use Rattle.rows.specs.declared.Book.{Book}
 use Rattle.rows.specs.Book.{with_day}
 use Rattle.rules.specs.Rules.{sound_book}
-use Rattle.calls.specs.declared.Outcome.{Outcome}
+use Rattle.calls.specs.Outcome.{Outcome}
 use Rattle.calls.specs.Calls.{answered, book_checks, open_checks, open_answer, opened, close_checks, close_answer, closed, pairing_checks, pair_answer, joined, split_checks, split_answer, parted, turn_checks, turn_answer}
 use Rattle.calls.specs.PassLaws.{open_numbered, close_numbered, pair_numbered, split_numbered, turn_numbered}
 use Rattle.calls.specs.CallLaws.{accepts_back, refuses}

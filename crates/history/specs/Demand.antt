@@ -9,7 +9,7 @@ use Rattle.rows.specs.declared.Book.{Book}
 use Rattle.rows.specs.Book.{holdings_of, pairs_of}
 use Rattle.rules.specs.Lots.{tied, total, free, units_of}
 use Rattle.rules.specs.Rules.{sound_book}
-use Rattle.calls.specs.declared.Outcome.{Outcome}
+use Rattle.calls.specs.Outcome.{Outcome}
 use Rattle.calls.specs.Calls.{make_answer}
 use Rattle.history.specs.History.{BookCall, checks_of, made, run, accepted}
 use Rattle.history.specs.Counts.{lots_opened, lots_closed, units_paired, units_split, last_day}

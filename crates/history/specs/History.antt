@@ -7,7 +7,7 @@ use Rattle.series.specs.declared.Series.{Series}
 use Rattle.series.specs.declared.Side.{Side}
 use Rattle.rows.specs.declared.Pair.{Pair}
 use Rattle.rows.specs.declared.Book.{Book}
-use Rattle.calls.specs.declared.Outcome.{Outcome}
+use Rattle.calls.specs.Outcome.{Outcome}
 use Rattle.calls.specs.Calls.{make_answer, open_checks, open_answer, close_checks, close_answer, pairing_checks, pair_answer, split_checks, split_answer, turn_checks, turn_answer}
 
 -- a call, with any numbers and any bytes

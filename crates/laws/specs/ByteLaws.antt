@@ -1,8 +1,9 @@
 -- Laws of texts: those that pass the test are the same, and those of three bytes.
-use Rattle.std.specs.Prelude.{◌≡◌, refl, Bool, true, List, [], ◌∷◌, ℕ, eqb, length, get_or}
+use Rattle.std.specs.Prelude.{◌≡◌, refl, Bool, true, List, [], ◌∷◌, ℕ, eqb, nat_eq, length, get_or}
+use Rattle.std.specs.Cmp.Lexicographic.{pointwise}
 use Rattle.std.proofs.Common.{arith, eqb-true, eq-eqb}
 use Rattle.laws.specs.Truth.{both}
-use Rattle.laws.specs.TruthLaws.{both_true, both_end, clash}
+use Rattle.laws.specs.TruthLaws.{both_true, both_end, both_and, clash}
 use Rattle.laws.specs.Bytes.{same_bytes}
 
 -- Texts that pass the test are the same, and a text passes it with itself.
@@ -34,3 +35,11 @@ three_bytes (a ∷ b ∷ c ∷ d ∷ l) h = absurd (omega arith)
 pub same_three : (x y : List ℕ) {r : Bool} → length x ≡ 3 → length y ≡ 3 → r ≡ both (eqb (get_or x 0 0) (get_or y 0 0)) (both (eqb (get_or x 1 0) (get_or y 1 0)) (eqb (get_or x 2 0) (get_or y 2 0))) → r ≡ same_bytes x y
 unfolding same_bytes
 same_three x y h k e = rw (three_bytes x h, three_bytes y k) (simp both_end e)
+
+-- The same test as std's `==` of two arrays or slices of bytes.
+pub as_pointwise : (x y : List ℕ) → same_bytes x y ≡ pointwise nat_eq x y
+unfolding same_bytes
+as_pointwise [] [] = refl
+as_pointwise [] (b ∷ y) = refl
+as_pointwise (a ∷ x) [] = refl
+as_pointwise (a ∷ x) (b ∷ y) = simp (as_pointwise x y) (both_and (eqb a b) (pointwise nat_eq x y))

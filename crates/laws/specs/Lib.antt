@@ -12,3 +12,5 @@ pub mod OrderLaws
 pub mod Kinds
 pub mod KindLaws
 pub mod OneAnswer
+pub mod Refusals
+pub mod RefusalLaws

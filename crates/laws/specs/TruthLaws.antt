@@ -1,5 +1,5 @@
 -- Laws of tests.
-use Rattle.std.specs.Prelude.{◌≡◌, refl, ◌⊎◌, Bool, true, false, not, ℕ, ◌≤◌, leb}
+use Rattle.std.specs.Prelude.{◌≡◌, refl, ◌⊎◌, Bool, true, false, not, ◌&&◌, ◌||◌, ℕ, ◌≤◌, leb}
 use Rattle.std.proofs.Common.{sym, ◌∙◌, inl, inr, arith, leb-true, le-leb}
 use Rattle.std.proofs.lemmas.Bool.{not-true, not-false}
 use Rattle.laws.specs.Truth.{pick, both, either, within}
@@ -64,3 +64,12 @@ pub same_test : (a b : Bool) → (a ≡ true → b ≡ true) → (b ≡ true →
 same_test true b h k = sym (h refl)
 same_test false true h k = k refl
 same_test false false h k = refl
+
+-- The tests are what std writes `&&` and `||`.
+pub both_and : (a b : Bool) → both a b ≡ (a && b)
+both_and true b = refl
+both_and false b = refl
+
+pub either_or : (a b : Bool) → either a b ≡ (a || b)
+either_or true b = refl
+either_or false b = refl

@@ -1,98 +1,57 @@
-// Tests, checks and orders: what every other crate is made of.
+// Refusals, checks and ranges; tests, orders and searches are in specs/.
 #![tactic(auto)]
 
 ghost use Rattle.std.specs.Prelude.{◌≡◌};
-ghost use Rattle.laws.specs.Truth.{pick, both, either, within};
-ghost use Rattle.laws.specs.Checks.{or_else};
-ghost use Rattle.laws.specs.Order.{order_of, is_less, is_same, then_by};
+ghost use Rattle.laws.specs.Truth.{pick, within};
+ghost use Rattle.laws.specs.Refusals.{number_of, number_in};
 
-#[derive(Clone, Copy)]
-pub enum Order {
-    Less,
-    Same,
-    More,
+// Why a line or a call is refused, each with the paper's number.
+#[derive(Clone, Copy, Debug, PartialEq, Eq)]
+pub enum Refusal {
+    Malformed = 1,
+    OutOfRange = 2,
+    OutOfOrder = 3,
+    UnknownCode = 4,
+    NoSuchDate = 5,
+    WrongCount = 6,
+    TooManyLots = 7,
+    BookFull = 8,
+    NotFree = 9,
+    NotAllowed = 10,
+    PairsFull = 11,
+    NoSuchPair = 12,
+    WrongDay = 13,
+    LineMissing = 14,
+    BufferShort = 15,
+    NotSound = 16,
 }
 
-pub fn and(a: bool, b: bool) -> bool
-    ensures { result ≡ both a b }
-{
-    if a { b } else { false }
+impl Refusal {
+    // The paper's number.
+    pub fn number(self) -> u8
+        ensures { result ≡ number_of self }
+    {
+        self as u8
+    }
 }
 
-pub fn or(a: bool, b: bool) -> bool
-    ensures { result ≡ either a b }
-{
-    if a { true } else { b }
+// Why a text is refused, and which line is at fault: 0 where no single one is.
+#[derive(Clone, Copy, Debug, PartialEq, Eq)]
+pub struct Fault {
+    pub refusal: Refusal,
+    pub line: u32,
 }
 
-// The first where the test holds, else the second.
-pub fn choose(test: bool, a: bool, b: bool) -> bool
-    ensures { result ≡ pick test a b }
+// One check: the refusal where it fails.
+pub fn ensure(passes: bool, refusal: Refusal) -> Result<(), Refusal>
+    ensures { number_in result ≡ pick passes 0 (number_of refusal) }
 {
-    if test { a } else { b }
+    if passes { Ok(()) } else { Err(refusal) }
 }
 
 // Whether x is least to greatest.
 pub fn in_range(least: u32, greatest: u32, x: u32) -> bool
     ensures { result ≡ within least greatest x }
 {
-    and(least <= x, x <= greatest)
-}
-
-// One check: the number where it fails, else what the checks after it answer.
-pub fn unless(number: u8, passes: bool, rest: u8) -> u8
-    ensures { result ≡ pick passes rest number }
-{
-    if passes { rest } else { number }
-}
-
-// Checks after checks: the first number that is not 0.
-pub fn or_else(number: u8, rest: u8) -> u8
-    ensures { result ≡ or_else number rest }
-{
-    if number == 0 { rest } else { number }
-}
-
-// The order of two numbers.
-pub fn order_of(m: u64, n: u64) -> Order
-    ensures { result ≡ order_of m n }
-{
-    if m < n {
-        return Order::Less;
-    }
-    if n < m {
-        return Order::More;
-    }
-    Order::Same
-}
-
-pub fn is_less(o: Order) -> bool
-    ensures { result ≡ is_less o }
-{
-    match o {
-        Order::Less => true,
-        Order::Same => false,
-        Order::More => false,
-    }
-}
-
-pub fn is_same(o: Order) -> bool
-    ensures { result ≡ is_same o }
-{
-    match o {
-        Order::Less => false,
-        Order::Same => true,
-        Order::More => false,
-    }
-}
-
-// The order by a first key, and by a second where the first is the same.
-pub fn then_by(first: Order, later: Order) -> Order
-    ensures { result ≡ then_by first later }
-{
-    match first {
-        Order::Less => Order::Less,
-        Order::Same => later,
-        Order::More => Order::More,
-    }
+    least <= x && x <= greatest
 }

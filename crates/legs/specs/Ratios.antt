@@ -1,6 +1,6 @@
 -- Document 01, "Which pairs may stand", kind 5: "The ratios allowed for kind 5 are: 1 TX to 1..4 TXO; ..", and "1 stock
 -- future to 1 option of that stock".
-use Rattle.std.specs.Prelude.{Bool, true, false, List, [], ◌∷◌, ℕ, eqb}
+use Rattle.std.specs.Prelude.{Bool, true, false, List, [], ◌∷◌, ℕ, eqb, Option, None, Some}
 use Prim.Native.String.{String}
 use Rattle.laws.specs.Truth.{pick, both, within}
 use Rattle.laws.specs.Text.{three}
@@ -8,8 +8,7 @@ use Rattle.laws.specs.Bytes.{same_bytes}
 use Rattle.laws.specs.Search.{first_where}
 use Rattle.codes.specs.Codes.{own_option}
 use Rattle.legs.specs.declared.RatioLine.{RatioLine}
-use Rattle.legs.specs.declared.Allowed.{Allowed}
-use Rattle.legs.specs.declared.Allowed.TheVariants.{Nothing, Ratio}
+use Rattle.legs.specs.declared.Ratio.{Ratio}
 
 -- a line of the table: r1 of the future to least..greatest of the option
 abbrev pub line : ℕ → String → ℕ → ℕ → String → RatioLine
@@ -31,21 +30,21 @@ ratios =
 unfoldable pub names : List ℕ → List ℕ → RatioLine → Bool
 names f o l = both (same_bytes f l.future) (same_bytes o l.option)
 
-abbrev pub line_allows : RatioLine → Allowed
-line_allows l = Ratio l.r1 l.least l.greatest
+abbrev pub line_allows : RatioLine → Option Ratio
+line_allows l = Some (record { r1 = l.r1; least = l.least; greatest = l.greatest })
 
-abbrev pub own_allows : List ℕ → List ℕ → Allowed
-own_allows f o = pick (own_option f o) (Ratio 1 1 1) Nothing
+abbrev pub own_allows : List ℕ → List ℕ → Option Ratio
+own_allows f o = pick (own_option f o) (Some (record { r1 = 1; least = 1; greatest = 1 })) None
 
 -- what is allowed of a future's and an option's code
-unfoldable pub allowed_of : List ℕ → List ℕ → Allowed
+unfoldable pub allowed_of : List ℕ → List ℕ → Option Ratio
 allowed_of f o = first_where (names f o) line_allows (own_allows f o) ratios
 
 -- the two codes are a listed couple, or a stock's own
-abbrev pub is_couple : Allowed → Bool
-is_couple Nothing = false
-is_couple (Ratio r1 least greatest) = true
+abbrev pub is_couple : Option Ratio → Bool
+is_couple None = false
+is_couple (Some ratio) = true
 
-abbrev pub fits_ratio : Allowed → ℕ → ℕ → Bool
-fits_ratio Nothing r1 r2 = false
-fits_ratio (Ratio one least greatest) r1 r2 = both (eqb r1 one) (within least greatest r2)
+abbrev pub fits_ratio : Option Ratio → ℕ → ℕ → Bool
+fits_ratio None r1 r2 = false
+fits_ratio (Some one) r1 r2 = both (eqb r1 one.r1) (within one.least one.greatest r2)

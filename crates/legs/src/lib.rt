@@ -7,12 +7,19 @@ ghost use Rattle.legs.specs.Ratios.{names, line_allows, own_allows, allowed_of, 
 
 use series::Series;
 
-// What kind 5 allows of two codes: nothing, or r1 of the future to a least and a greatest r2 of the option.
+// What kind 5 allows of two codes: r1 of the future to a least and a greatest r2 of the option.
 #[derive(Clone, Copy)]
-pub enum Allowed {
-    Nothing,
-    Ratio(u32, u32, u32),
+pub struct Ratio {
+    pub r1: u32,
+    pub least: u32,
+    pub greatest: u32,
 }
+
+const ONE_TO_ONE: Ratio = Ratio {
+    r1: 1,
+    least: 1,
+    greatest: 1,
+};
 
 #[derive(Clone, Copy)]
 pub struct RatioLine {
@@ -82,154 +89,132 @@ const RATIOS: [RatioLine; 8] = [
     },
 ];
 
+#[tactic(auto, unfolding(crate::specs::Legs::same_code), using(laws::specs::ByteLaws::as_pointwise))]
 pub fn same_codes(a: Series, b: Series) -> bool
     ensures { result ≡ same_code a b }
 {
-    let x = a.code;
-    let y = b.code;
-    codes::same_code(x, y)
+    a.code == b.code
 }
 
 // The one code and the other, in either order.
+#[tactic(auto, unfolding(crate::specs::Legs::couple), using(laws::specs::ByteLaws::as_pointwise))]
 fn is_couple_of(x: [u8; 3], y: [u8; 3], a: Series, b: Series) -> bool
     ensures { result ≡ couple x y a b }
 {
-    let p = a.code;
-    let q = b.code;
-    let forth = laws::and(codes::same_code(p, x), codes::same_code(q, y));
-    let back = laws::and(codes::same_code(p, y), codes::same_code(q, x));
-    laws::or(forth, back)
+    (a.code == x && b.code == y) || (a.code == y && b.code == x)
 }
 
 // UNF with SXF, or GTF with G2F.
+#[tactic(auto, unfolding(crate::specs::Legs::two_products))]
 pub fn are_two_products(a: Series, b: Series) -> bool
     ensures { result ≡ two_products a b }
 {
-    laws::or(
-        is_couple_of([b'U', b'N', b'F'], [b'S', b'X', b'F'], a, b),
-        is_couple_of([b'G', b'T', b'F'], [b'G', b'2', b'F'], a, b),
-    )
+    is_couple_of([b'U', b'N', b'F'], [b'S', b'X', b'F'], a, b)
+        || is_couple_of([b'G', b'T', b'F'], [b'G', b'2', b'F'], a, b)
 }
 
 // Both calls or both puts.
+#[tactic(auto, unfolding(crate::specs::Legs::same_nature))]
 pub fn same_natures(a: Series, b: Series) -> bool
     ensures { result ≡ same_nature a b }
 {
-    let m = a.nature;
-    let n = b.nature;
-    let calls = laws::and(series::is_call(m), series::is_call(n));
-    let puts = laws::and(series::is_put(m), series::is_put(n));
-    laws::or(calls, puts)
+    (series::is_call(a.nature) && series::is_call(b.nature))
+        || (series::is_put(a.nature) && series::is_put(b.nature))
 }
 
+#[tactic(auto, unfolding(crate::specs::Legs::call_then_put))]
 pub fn call_then_put(a: Series, b: Series) -> bool
     ensures { result ≡ call_then_put a b }
 {
-    let m = a.nature;
-    let n = b.nature;
-    laws::and(series::is_call(m), series::is_put(n))
+    series::is_call(a.nature) && series::is_put(b.nature)
 }
 
+#[tactic(auto, unfolding(crate::specs::Legs::one_call_one_put))]
 pub fn one_call_one_put(a: Series, b: Series) -> bool
     ensures { result ≡ one_call_one_put a b }
 {
-    laws::or(call_then_put(a, b), call_then_put(b, a))
+    call_then_put(a, b) || call_then_put(b, a)
 }
 
+#[tactic(auto, unfolding(crate::specs::Legs::future_then_option))]
 pub fn future_then_option(a: Series, b: Series) -> bool
     ensures { result ≡ future_then_option a b }
 {
-    let m = a.nature;
-    let n = b.nature;
-    laws::and(
-        series::is_future(m),
-        laws::or(series::is_call(n), series::is_put(n)),
-    )
+    series::is_future(a.nature) && (series::is_call(b.nature) || series::is_put(b.nature))
 }
 
+#[tactic(auto, unfolding(crate::specs::Legs::both_futures))]
 pub fn both_futures(a: Series, b: Series) -> bool
     ensures { result ≡ both_futures a b }
 {
-    let m = a.nature;
-    let n = b.nature;
-    laws::and(series::is_future(m), series::is_future(n))
+    series::is_future(a.nature) && series::is_future(b.nature)
 }
 
 // Call: long strike lower; put: long strike higher.
+#[tactic(auto, unfolding(crate::specs::Legs::debit_strikes))]
 pub fn debit_strikes(long: Series, short: Series) -> bool
     ensures { result ≡ debit_strikes long short }
 {
-    let m = long.nature;
-    let n = short.nature;
-    let l = series::strike_of(m);
-    let s = series::strike_of(n);
-    laws::choose(series::is_call(m), l < s, s < l)
-}
-
-pub fn one_to_one(r1: u32, r2: u32) -> bool
-    ensures { result ≡ one_to_one r1 r2 }
-{
-    laws::and(r1 == 1, r2 == 1)
-}
-
-fn is_named(future: [u8; 3], option: [u8; 3], line: RatioLine) -> bool
-    ensures { result ≡ names future option line }
-{
-    let f = line.future;
-    let o = line.option;
-    laws::and(codes::same_code(future, f), codes::same_code(option, o))
-}
-
-fn line_allows(line: RatioLine) -> Allowed
-    ensures { result ≡ line_allows line }
-{
-    Allowed::Ratio(line.r1, line.least, line.greatest)
-}
-
-// A stock future goes 1 to 1 with an option of that stock.
-fn own_allows(future: [u8; 3], option: [u8; 3]) -> Allowed
-    ensures { result ≡ own_allows future option }
-{
-    if codes::is_own_option(future, option) {
-        Allowed::Ratio(1, 1, 1)
+    let l = series::strike_of(long.nature);
+    let s = series::strike_of(short.nature);
+    if series::is_call(long.nature) {
+        l < s
     } else {
-        Allowed::Nothing
+        s < l
     }
 }
 
+#[tactic(auto, unfolding(crate::specs::Legs::one_to_one))]
+pub fn one_to_one(r1: u32, r2: u32) -> bool
+    ensures { result ≡ one_to_one r1 r2 }
+{
+    r1 == 1 && r2 == 1
+}
+
+#[tactic(auto, unfolding(crate::specs::Ratios::names), using(laws::specs::ByteLaws::as_pointwise))]
+fn is_named(future: [u8; 3], option: [u8; 3], line: RatioLine) -> bool
+    ensures { result ≡ names future option line }
+{
+    future == line.future && option == line.option
+}
+
+fn line_allows(line: RatioLine) -> Option<Ratio>
+    ensures { result ≡ line_allows line }
+{
+    Some(Ratio {
+        r1: line.r1,
+        least: line.least,
+        greatest: line.greatest,
+    })
+}
+
+// A stock future goes 1 to 1 with an option of that stock.
+fn own_allows(future: [u8; 3], option: [u8; 3]) -> Option<Ratio>
+    ensures { result ≡ own_allows future option }
+{
+    codes::is_own_option(future, option).then_some(ONE_TO_ONE)
+}
+
 // What kind 5 allows of a future's and an option's code.
-pub fn allowed_of(future: [u8; 3], option: [u8; 3]) -> Allowed
+pub fn allowed_of(future: [u8; 3], option: [u8; 3]) -> Option<Ratio>
     ensures { result ≡ allowed_of future option }
 {
-    let lines = RATIOS;
-    let mut i: usize = 0;
-    while i < 8 {
-        let line = lines[i];
-        if is_named(future, option, line) {
-            return line_allows(line);
+    for line in RATIOS.iter() {
+        if is_named(future, option, *line) {
+            return line_allows(*line);
         }
-        i += 1;
     }
     own_allows(future, option)
 }
 
-pub fn is_couple(a: Allowed) -> bool
+pub fn is_couple(a: Option<Ratio>) -> bool
     ensures { result ≡ is_couple a }
 {
-    match a {
-        Allowed::Nothing => false,
-        Allowed::Ratio(_, _, _) => true,
-    }
+    a.is_some()
 }
 
-pub fn fits_ratio(a: Allowed, r1: u32, r2: u32) -> bool
+pub fn fits_ratio(a: Option<Ratio>, r1: u32, r2: u32) -> bool
     ensures { result ≡ fits_ratio a r1 r2 }
 {
-    match a {
-        Allowed::Nothing => false,
-        Allowed::Ratio(one, least, greatest) => laws::and(
-            r1 == one,
-            laws::in_range(least, greatest, r2),
-        ),
-    }
+    a.is_some_and(|one| r1 == one.r1 && laws::in_range(one.least, one.greatest, r2))
 }

@@ -1,13 +1,17 @@
 -- Laws of levels: small futures' parts are whole, a raised rate and b are exact, and how large an amount and a rate can be.
-use Rattle.std.specs.Prelude.{◌≡◌, true, ℕ, ◌*◌, ◌/◌, ◌%◌, ◌≤◌}
-use Rattle.std.proofs.Common.{ap, ◌∙◌, div-add-mod', mul_assoc, mul-le-mul, div-le_self, le_trans, arith, lit<}
+use Rattle.std.specs.Prelude.{◌≡◌, true, ℕ, ◌*◌, ◌/◌, ◌%◌, ◌≤◌, Result, Ok, Err, IsOk}
+use Rattle.std.specs.Result.{result_unwrap_or}
+use Rattle.laws.specs.declared.Refusal.{Refusal}
+use Rattle.laws.specs.Refusals.{number_of}
+use Rattle.laws.specs.RefusalLaws.{refusal_positive, one_refusal}
+use Rattle.std.proofs.Common.{ap, ◌∙◌, div-add-mod', mul_assoc, mul-le-mul, div-le_self, le_trans, arith, rules, lit<}
 use Rattle.laws.specs.TruthLaws.{both_true}
 use Rattle.rounding.specs.Rounding.{round_up, half_up}
 use Rattle.rounding.specs.RoundingLaws.{rounds_up, up_below, near_above}
 use Rattle.levels.specs.declared.Levels.{Levels}
 use Rattle.levels.specs.Ranges.{AtMost, part_fits, fixed_fits, rate_fits, rates_fit}
 use Rattle.levels.specs.RangeLaws.{clearing_is, part_is, rate_is, fixed_is, rates_are}
-use Rattle.levels.specs.Levels.{per_level, both_levels, levels_of, part_of, raised, rates_of, stock_rates, half_of}
+use Rattle.levels.specs.Levels.{Answer, answer_of, per_level, both_levels, flat, levels_of, part_of, raised, rates_of, stock_rates, half_of}
 
 -- What bounds one level bounds each.
 pub each_at_most : {most more : ℕ} {l : Levels} (f : ℕ → ℕ) → ((n : ℕ) → n ≤ most → f n ≤ more) → AtMost most l → AtMost more (per_level f l)
@@ -107,3 +111,29 @@ halves_most h = each_at_most half_of (λ n k. omega (arith, k)) h
 pub rates_answered : (rate disposition : ℕ) → rates_fit rate disposition ≡ true → (stock_rates rate disposition).levels ≡ rates_of rate disposition
 unfolding stock_rates
 rates_answered rate disposition e = simp e
+
+-- So a rate and a disposition that fit are not refused.
+pub rates_ok : (rate disposition : ℕ) (r : Result Levels Refusal) → rates_fit rate disposition ≡ true → answer_of r ≡ stock_rates rate disposition → IsOk r
+unfolding stock_rates
+rates_ok rate disposition (Ok l) e h = search rules
+rates_ok rate disposition (Err r) e h =
+    let n : number_of r ≡ 0 = ap (λ (a : Answer). a.number) (rw e at h) in
+    absurd (omega (arith, refusal_positive r))
+
+pub rates_got : (rate disposition : ℕ) (r : Result Levels Refusal) (l : Levels) → rates_fit rate disposition ≡ true → answer_of r ≡ stock_rates rate disposition → r ≡ Ok l → (l ≡ rates_of rate disposition) × AtMost 121500 l
+unfolding stock_rates
+rates_got rate disposition r l e h q =
+    let is : l ≡ rates_of rate disposition = ap (λ (a : Answer). a.levels) (rw (q, e) at h) in
+    (is, rw is (rates_most rate disposition e))
+
+-- The levels of an answer, or zeros.
+pub or_zeros : (r : Result Levels Refusal) {a : Answer} {z m : Levels} → answer_of r ≡ a → z ≡ flat 0 → m ≡ result_unwrap_or r z → m ≡ a.levels
+or_zeros (Ok l) e h q = q ∙ ap (λ (a : Answer). a.levels) e
+or_zeros (Err r) e h q = q ∙ (h ∙ ap (λ (a : Answer). a.levels) e)
+
+-- Answers that stand for the same are the same.
+pub one_levels : (r s : Result Levels Refusal) → answer_of r ≡ answer_of s → r ≡ s
+one_levels (Ok l) (Ok m) e = ap (λ (a : Answer). Ok a.levels) e
+one_levels (Ok l) (Err s) e = let n : 0 ≡ number_of s = ap (λ (a : Answer). a.number) e in absurd (omega (arith, refusal_positive s))
+one_levels (Err r) (Ok m) e = let n : number_of r ≡ 0 = ap (λ (a : Answer). a.number) e in absurd (omega (arith, refusal_positive r))
+one_levels (Err r) (Err s) e = ap (λ (q : Refusal). Err q) (one_refusal r s (ap (λ (a : Answer). a.number) e))

@@ -1,9 +1,10 @@
 -- Document 01, "Rates and amounts", fixed futures and stocks: clearing, maintenance and initial.
-use Rattle.std.specs.Prelude.{ℕ, ◌*◌, ◌/◌}
+use Rattle.std.specs.Prelude.{ℕ, ◌*◌, ◌/◌, Result, Ok, Err}
+use Rattle.laws.specs.declared.Refusal.{Refusal}
+use Rattle.laws.specs.Refusals.{number_of}
 use Rattle.laws.specs.Truth.{pick}
 use Rattle.rounding.specs.Rounding.{round_up, half_up}
 use Rattle.levels.specs.declared.Levels.{Levels}
-use Rattle.levels.specs.declared.Answer.{Answer}
 use Rattle.levels.specs.Ranges.{fixed_fits, rates_fit}
 
 -- What is said of one level, at each level; of one number, and of two.
@@ -20,6 +21,16 @@ both_levels f l m =
 
 abbrev pub flat : ℕ → Levels
 flat n = record { clearing = n; maintenance = n; initial = n }
+
+-- A refusal's number, or 0 and the levels; zeros with a refusal.
+pub record Answer : Type 0 where
+  pub number : ℕ
+  pub levels : Levels
+
+-- What an answer of the code stands for.
+abbrev pub answer_of : Result Levels Refusal → Answer
+answer_of (Ok l) = record { number = 0; levels = l }
+answer_of (Err r) = record { number = number_of r; levels = flat 0 }
 
 -- A value outside its range or off its step: 2, and zeros.
 abbrev pub outside : Answer

@@ -1,3 +1,4 @@
+pub mod Each
 pub mod Ranges
 pub mod RangeLaws
 pub mod Levels

@@ -1,6 +1,6 @@
 -- Laws of ranges: what a test says of a number.
-use Rattle.std.specs.Prelude.{◌≡◌, true, ℕ, ◌%◌, ◌≤◌, eqb}
-use Rattle.std.proofs.Common.{sym, subst, ⊎_elim, le_trans, lit≤, leb-true, le-leb, eqb-true}
+use Rattle.std.specs.Prelude.{◌≡◌, true, ℕ, ◌%◌, ◌≤◌, ◌<◌, eqb}
+use Rattle.std.proofs.Common.{sym, subst, ⊎_elim, le_trans, lit≤, lit<, leb-true, le-leb, eqb-true}
 use Rattle.laws.specs.Truth.{either}
 use Rattle.laws.specs.TruthLaws.{both_true, either_true, within_true}
 use Rattle.levels.specs.declared.Levels.{Levels}
@@ -38,6 +38,10 @@ disposition_is P n a b c d e = among P 10 15 20 30 n a b c d e
 pub fixed_is : (clearing part : ℕ) → fixed_fits clearing part ≡ true → (clearing_fits clearing ≡ true) × (part_fits part ≡ true)
 unfolding fixed_fits
 fixed_is clearing part e = both_true _ _ e
+
+-- A part is of something.
+pub some_part : (clearing part : ℕ) → fixed_fits clearing part ≡ true → 0 < part
+some_part clearing part e = part_is (λ (n : ℕ). 0 < n) part (lit< tt) (lit< tt) (lit< tt) (lit< tt) (fixed_is clearing part e).1
 
 -- A raised rate is at most 90 percent.
 pub rates_are : (rate disposition : ℕ) → rates_fit rate disposition ≡ true → (rate ≤ 30000) × (disposition ≤ 30)

@@ -2,22 +2,44 @@
 #![tactic(auto)]
 
 ghost use Rattle.std.specs.Prelude.{◌≡◌, ◌≤◌, ◌<◌};
-ghost use Rattle.levels.specs.Levels.{per_level, flat, levels_of, part_of, raised, rates_of, half_of, fixed_levels, stock_rates, outside};
+ghost use Rattle.levels.specs.Each.{AtEach, AtBoth, AtThree};
+ghost use Rattle.levels.specs.Levels.{answer_of, per_level, flat, levels_of, part_of, raised, rates_of, half_of, fixed_levels, stock_rates};
 ghost use Rattle.levels.specs.Ranges.{levels_fit, clearing_fits, part_fits, fixed_fits, rate_fits, disposition_fits, rates_fit};
 
+use laws::Refusal;
+
 // One number for each level: dollars, or thousandths of a percent.
-#[derive(Clone, Copy)]
+#[derive(Clone, Copy, Default)]
 pub struct Levels {
     pub clearing: u64,
     pub maintenance: u64,
     pub initial: u64,
 }
 
-// A refusal's number, or 0 and the levels; zeros with a refusal.
-#[derive(Clone, Copy)]
-pub struct Answer {
-    pub number: u8,
-    pub levels: Levels,
+impl Levels {
+    // What f makes of each level.
+    pub fn map<F: Fn(u64) -> u64>(self, f: F) -> Levels
+        requires { AtEach (F.pre f) self }
+        ensures { AtBoth (F.post f) self result }
+    {
+        Levels {
+            clearing: f(self.clearing),
+            maintenance: f(self.maintenance),
+            initial: f(self.initial),
+        }
+    }
+
+    // What f makes of the two at each level.
+    pub fn zip_with<F: Fn(u64, u64) -> u64>(self, other: Levels, f: F) -> Levels
+        requires { AtBoth (F.pre f) self other }
+        ensures { AtThree (F.post f) self other result }
+    {
+        Levels {
+            clearing: f(self.clearing, other.clearing),
+            maintenance: f(self.maintenance, other.maintenance),
+            initial: f(self.initial, other.initial),
+        }
+    }
 }
 
 // The same number at all levels.
@@ -32,77 +54,63 @@ pub fn same_at_all(n: u64) -> Levels
 }
 
 // Whether no level is above `most`.
+#[tactic(auto, unfolding(crate::specs::Ranges::levels_fit))]
 pub fn levels_fit(most: u64, l: Levels) -> bool
     ensures { result ≡ levels_fit most l }
 {
-    laws::and(
-        l.clearing <= most,
-        laws::and(l.maintenance <= most, l.initial <= most),
-    )
+    l.clearing <= most && l.maintenance <= most && l.initial <= most
 }
 
 // A clearing amount: at most 100,000,000, a multiple of 1,000.
+#[tactic(auto, unfolding(crate::specs::Ranges::clearing_fits))]
 pub fn clearing_fits(clearing: u32) -> bool
     ensures { result ≡ clearing_fits clearing }
 {
-    laws::and(clearing <= 100000000, clearing % 1000 == 0)
+    clearing <= 100000000 && clearing % 1000 == 0
 }
 
 // Which part of the full-size future: all of it, a quarter, an eighth or a twentieth.
+#[tactic(auto, unfolding(crate::specs::Ranges::part_fits))]
 fn part_fits(part: u32) -> bool
     ensures { result ≡ part_fits part }
 {
-    laws::or(
-        part == 1,
-        laws::or(part == 4, laws::or(part == 8, part == 20)),
-    )
+    matches!(part, 1 | 4 | 8 | 20)
 }
 
 // What a fixed future is asked with.
+#[tactic(auto, unfolding(crate::specs::Ranges::fixed_fits))]
 fn fixed_fits(clearing: u32, part: u32) -> bool
     ensures { result ≡ fixed_fits clearing part }
 {
-    laws::and(clearing_fits(clearing), part_fits(part))
+    clearing_fits(clearing) && part_fits(part)
 }
 
 // A clearing rate: 1,000 to 30,000 by thousands.
+#[tactic(auto, unfolding(crate::specs::Ranges::rate_fits))]
 fn rate_fits(rate: u32) -> bool
     ensures { result ≡ rate_fits rate }
 {
-    laws::and(laws::in_range(1000, 30000, rate), rate % 1000 == 0)
+    (1000..=30000).contains(&rate) && rate % 1000 == 0
 }
 
 // A disposition: 10, 15, 20 or 30 tenths.
+#[tactic(auto, unfolding(crate::specs::Ranges::disposition_fits))]
 fn disposition_fits(disposition: u32) -> bool
     ensures { result ≡ disposition_fits disposition }
 {
-    laws::or(
-        disposition == 10,
-        laws::or(
-            disposition == 15,
-            laws::or(disposition == 20, disposition == 30),
-        ),
-    )
+    matches!(disposition, 10 | 15 | 20 | 30)
 }
 
 // Whether a clearing rate and a disposition are ones that a sheet can have.
+#[tactic(auto, unfolding(crate::specs::Ranges::rates_fit))]
 pub fn rates_fit(rate: u32, disposition: u32) -> bool
     ensures { result ≡ rates_fit rate disposition }
 {
-    laws::and(rate_fits(rate), disposition_fits(disposition))
-}
-
-// A value outside its range or off its step.
-fn refused() -> Answer
-    ensures { result ≡ outside }
-{
-    Answer {
-        number: 2,
-        levels: same_at_all(0),
-    }
+    rate_fits(rate) && disposition_fits(disposition)
 }
 
 // 1.035 and 1.35 times the clearing amount, each raised to the step.
+#[tactic(auto, unfolding(crate::specs::Levels::levels_of))]
 fn levels_of(clearing: u32, step: u32) -> Levels
     ensures { result ≡ levels_of clearing step }
 {
@@ -114,32 +122,25 @@ fn levels_of(clearing: u32, step: u32) -> Levels
 }
 
 // A part of the amount at the same level.
+#[tactic(auto, unfolding(crate::specs::Levels::part_of))]
 fn part_of(l: Levels, part: u32) -> Levels
     requires { 0 < part }
     ensures { result ≡ part_of l part }
 {
-    let n = part as u64;
-    Levels {
-        clearing: l.clearing / n,
-        maintenance: l.maintenance / n,
-        initial: l.initial / n,
-    }
+    l.map(|x| x / part as u64)
 }
 
 // A fixed future's margin, from the clearing amount of the full-size future and the part that it is of it.
-pub fn fixed_levels(clearing: u32, part: u32) -> Answer
-    ensures { result ≡ fixed_levels clearing part }
+#[tactic(auto, using(crate::specs::RangeLaws::some_part), unfolding(crate::specs::Levels::fixed_levels))]
+pub fn fixed_levels(clearing: u32, part: u32) -> Result<Levels, Refusal>
+    ensures { answer_of result ≡ fixed_levels clearing part }
 {
-    if fixed_fits(clearing, part) {
-        return Answer {
-            number: 0,
-            levels: part_of(levels_of(clearing, 1000), part),
-        };
-    }
-    refused()
+    laws::ensure(fixed_fits(clearing, part), Refusal::OutOfRange)?;
+    Ok(part_of(levels_of(clearing, 1000), part))
 }
 
 // The clearing rate raised by the disposition; then 1.035 and 1.35 times the raised rate, half up to 0.01 percent.
+#[tactic(auto, unfolding(crate::specs::Levels::rates_of, crate::specs::Levels::raised))]
 fn rates_of(rate: u32, disposition: u32) -> Levels
     requires { (rate ≤ 30000) × (disposition ≤ 30) }
     ensures { result ≡ rates_of rate disposition }
@@ -153,25 +154,18 @@ fn rates_of(rate: u32, disposition: u32) -> Levels
 }
 
 // A stock's rates, for its futures or for its options (a).
-pub fn stock_rates(rate: u32, disposition: u32) -> Answer
-    ensures { result ≡ stock_rates rate disposition }
+#[tactic(auto, using(crate::specs::RangeLaws::rates_are), unfolding(crate::specs::Levels::stock_rates))]
+pub fn stock_rates(rate: u32, disposition: u32) -> Result<Levels, Refusal>
+    ensures { answer_of result ≡ stock_rates rate disposition }
 {
-    if rates_fit(rate, disposition) {
-        return Answer {
-            number: 0,
-            levels: rates_of(rate, disposition),
-        };
-    }
-    refused()
+    laws::ensure(rates_fit(rate, disposition), Refusal::OutOfRange)?;
+    Ok(rates_of(rate, disposition))
 }
 
 // Half of each level: b of a.
+#[tactic(auto, unfolding(crate::specs::Levels::half_of))]
 pub fn halves(l: Levels) -> Levels
     ensures { result ≡ per_level half_of l }
 {
-    Levels {
-        clearing: l.clearing / 2,
-        maintenance: l.maintenance / 2,
-        initial: l.initial / 2,
-    }
+    l.map(|x| x / 2)
 }

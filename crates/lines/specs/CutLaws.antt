@@ -1,7 +1,10 @@
 -- Laws of cutting a text: the search for the next byte, and what stands before and behind the place that it finds.
-use Rattle.std.specs.Prelude.{◌≡◌, Bool, true, false, List, [], ◌∷◌, eqb, ltb, get_or, take}
+use Rattle.std.specs.Prelude.{◌≡◌, Bool, true, false, List, [], ◌∷◌, eqb, ltb, get_or, take, position, unwrap_or, cond, nat_lt, Some, None, not}
+use Rattle.std.proofs.lemmas.List.Sums.{prefix_len-le-length}
+use Rattle.std.specs.List.{position_or_len}
+use Rattle.std.proofs.lemmas.List.Recursion.{is_position_or_len}
 use Rattle.std.proofs.Math.Path.{refl, ap}
-use Rattle.std.proofs.Common.{sym, ◌∙◌, add-one, take_all}
+use Rattle.std.proofs.Common.{sym, ◌∙◌, add-one, one-add, take_all}
 use Prim.Native.Nat.{ℕ, suc, ◌+◌, ◌-◌, ◌<◌, ◌≤◌}
 use native.Mathlib.Omega.{arith}
 use borrow.Author.Tests.{eq-eqb, ne_eqb, lt-ltb, le-ltb, ltb-true, ltb-false}
@@ -12,6 +15,21 @@ use Rattle.laws.specs.TruthLaws.{by_test, false_unless}
 use Rattle.laws.specs.Bytes.{same_bytes}
 use Rattle.laws.specs.ByteLaws.{are_same}
 use Rattle.lines.specs.Pieces.{tab, one, more, in_front, split_on, list_of, fields_of, index_of, next_of}
+
+-- A search by recursion is std's `position`, or the length where nothing passes.
+found_or : (n m : ℕ) → n ≤ m → unwrap_or (cond (nat_lt n m) (Some n) None) m ≡ n
+found_or n m h =
+    by_test (λ (e : Bool). nat_lt n m ≡ e → unwrap_or (cond e (Some n) None) m ≡ n) (nat_lt n m)
+    (λ q e. refl)
+    (λ q e. let k = ltb-false n m e in omega arith)
+    refl
+
+pub as_position : (F : List ℕ → ℕ) (p : ℕ → Bool) → F [] ≡ 0 → ((x : ℕ) (xs : List ℕ) → F (x ∷ xs) ≡ cond (p x) 0 (1 + F xs)) → (u : List ℕ) → F u ≡ unwrap_or (position p u) (length u)
+as_position F p none step u = is_position_or_len F p none step u ∙ sym (found_or (position_or_len p u) (length u) (prefix_len-le-length (λ x. not (p x)) u))
+
+pub next_position : (t : List ℕ) (at c : ℕ) → next_of t at c ≡ at + unwrap_or (position (λ x. eqb x c) (drop at t)) (length (drop at t))
+unfolding next_of index_of
+next_position t at c = ap (λ (n : ℕ). at + n) (as_position (index_of c) (λ x. eqb x c) refl (λ x xs. simp one-add) (drop at t))
 
 -- The search: it ends at a c or at the end of the text, and else goes on.
 module _ (t : List ℕ) (i c : ℕ) where

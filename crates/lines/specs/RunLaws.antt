@@ -10,6 +10,7 @@ use native.Mathlib.Omega.{arith}
 use Rattle.std.proofs.Math.Decide.{dec_lt}
 use borrow.Author.Tests.{lt-ltb, ltb-true}
 use Rattle.std.proofs.Math.ListN.{drop, length-drop}
+use Rattle.std.specs.Char.{is_ascii_digit}
 use Rattle.laws.specs.Truth.{pick, both, within}
 use Rattle.laws.specs.TruthLaws.{both_true, both_hold, by_test, within_true, clash, false_unless}
 use Rattle.laws.specs.Text.{byte}
@@ -23,6 +24,11 @@ use Rattle.lines.specs.declared.Cell.{Cell}
 use Rattle.lines.specs.Pieces.{tab, lf, stops, field_length, stop_of, stops_at}
 use Rattle.lines.specs.Fields.{code_in, mark_in, cell_of, field_text, no_field, number_field, field_with, field_at, figure_at}
 use Rattle.lines.specs.StopLaws.{other_not, stop_low}
+
+-- a digit is what std calls one
+pub ascii_digit : (b : ℕ) → is_digit b ≡ is_ascii_digit b
+unfolding is_digit
+ascii_digit b = refl
 
 -- the bytes from one place to another
 abbrev part_of : List ℕ → ℕ → ℕ → List ℕ

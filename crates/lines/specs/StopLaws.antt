@@ -1,13 +1,13 @@
 -- Laws of the end of a field: the search for the first tab or LF in a text, and what it finds in the line in which it begins.
-use Rattle.std.specs.Prelude.{◌≡◌, refl, Bool, true, false, List, [], ◌∷◌, ℕ, zero, suc, ◌+◌, ◌-◌, ◌<◌, ◌≤◌, eqb, get_or, length, take, drop}
-use Rattle.std.proofs.Common.{sym, ◌∙◌, add-one, eq-eqb, ne_eqb, eqb-true, drop_of_length-le, length-take, drop-drop, get_or-drop}
+use Rattle.std.specs.Prelude.{◌≡◌, refl, Bool, true, false, List, [], ◌∷◌, ℕ, zero, suc, ◌+◌, ◌-◌, ◌<◌, ◌≤◌, eqb, get_or, length, take, drop, unwrap_or, position}
+use Rattle.std.proofs.Common.{ap, one-add, sym, ◌∙◌, add-one, eq-eqb, ne_eqb, eqb-true, drop_of_length-le, length-take, drop-drop, get_or-drop}
 use native.Mathlib.Omega.{arith}
 use Rattle.std.proofs.Math.ListN.{length-drop}
 use Rattle.std.proofs.Math.Seq.{drop-cons, take-take}
 use Rattle.laws.specs.Truth.{pick, either}
 use Rattle.laws.specs.TruthLaws.{by_test}
 use Rattle.lines.specs.Pieces.{tab, lf, index_of, next_of, stops, field_length, stop_of}
-use Rattle.lines.specs.CutLaws.{next_high}
+use Rattle.lines.specs.CutLaws.{as_position, next_high}
 
 -- A byte that ends a field, and one that does not.
 pub tab_stops : {b : ℕ} → b ≡ tab → stops b ≡ true
@@ -21,6 +21,11 @@ other_not {b} h k = rw (ne_eqb b tab h, ne_eqb b lf k)
 
 pub stops_lf : {b : ℕ} → stops b ≡ true → (b ≡ tab → ⊥) → b ≡ lf
 stops_lf {b} e h = eqb-true b lf (rw (ne_eqb b tab h) at e)
+
+-- The search is std's `position` of the first of these in what stands from `at` on.
+pub stop_position : (t : List ℕ) (at : ℕ) → stop_of t at ≡ at + unwrap_or (position stops (drop at t)) (length (drop at t))
+unfolding stop_of field_length
+stop_position t at = ap (λ (n : ℕ). at + n) (as_position field_length stops refl (λ x xs. simp one-add) (drop at t))
 
 -- The search: it ends at a tab, an LF or the end of the text, and else goes on.
 module _ (t : List ℕ) (i : ℕ) where

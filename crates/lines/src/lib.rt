@@ -1,11 +1,11 @@
 // Lines and fields: where a line or a field ends, what stands in a field, and the series that four fields write.
 #![tactic(auto)]
 
-ghost use Rattle.std.specs.Prelude.{◌≡◌, ◌≤◌, ◌<◌, length, get_or};
+ghost use Rattle.std.specs.Prelude.{◌≡◌, ◌≤◌, ◌<◌, length, get_or, drop};
 ghost use Rattle.laws.specs.Bytes.{same_bytes};
 ghost use Rattle.digits.specs.Digits.{is_fixed};
 ghost use Rattle.lines.specs.declared.Asked.TheVariants.{Number, Account, Date, Code, Mark};
-ghost use Rattle.lines.specs.Pieces.{next_of, stop_of, stops_at};
+ghost use Rattle.lines.specs.Pieces.{next_of, stops, stop_of, stops_at};
 ghost use Rattle.lines.specs.Fields.{code_in, mark_in, no_cell, no_field, number_field, field_at, figure_at, nature_of, series_of};
 ghost use Rattle.lines.specs.Behind.{field_behind, chain_behind, series_form, written_in};
 ghost use Rattle.lines.specs.RunLaws.{RunIs};
@@ -13,7 +13,7 @@ ghost use Rattle.lines.specs.RunLaws.{RunIs};
 use series::{Nature, Series};
 
 // What the form of a line asks of a field.
-#[derive(Clone, Copy)]
+#[derive(Clone, Copy, Debug, PartialEq, Eq)]
 pub enum Asked {
     Nothing,
     Number,
@@ -53,97 +53,89 @@ struct Run {
     stop: usize,
 }
 
+// What stands from `at` on: nothing where the text ends before.
+fn rest_from(t: &[u8], at: usize) -> &[u8]
+    ensures { result.now ≡ drop at t.now }
+{
+    t.get(at..).unwrap_or(&[])
+}
+
 // The place of the first b from `at` on, or the end of the text.
 pub fn next(t: &[u8], at: usize, b: u8) -> usize
     ensures { result ≡ next_of t.now at b }
 {
-    let mut i = at;
-    while i < t.len() {
-        if t[i] == b {
-            return i;
-        }
-        i += 1;
-    }
-    i
+    let rest = rest_from(t, at);
+    let length = rest.iter().position(|x| *x == b);
+    at + length.unwrap_or(rest.len())
 }
 
 // Whether a text is the other one, byte by byte.
+#[tactic(auto, using(laws::specs::ByteLaws::as_pointwise))]
 pub fn same_text(t: &[u8], name: &[u8]) -> bool
     ensures { result ≡ same_bytes t.now name.now }
 {
-    if t.len() != name.len() {
-        return false;
-    }
-    let mut i: usize = 0;
-    while i < t.len() {
-        if t[i] != name[i] {
-            return false;
-        }
-        i += 1;
-    }
-    true
+    t == name
 }
 
+#[tactic(auto, unfolding(crate::specs::Fields::code_in))]
 fn code_in(t: &[u8]) -> [u8; 3]
     ensures { result ≡ code_in t.now }
 {
-    if t.len() == 2 {
-        return [t[0], t[1], 0];
+    match t {
+        [a, b] => [*a, *b, 0],
+        [a, b, c] if *c != 0 => [*a, *b, *c],
+        _ => [0; 3],
     }
-    if t.len() != 3 {
-        return [0, 0, 0];
-    }
-    if t[2] == 0 {
-        return [0, 0, 0];
-    }
-    [t[0], t[1], t[2]]
 }
 
+#[tactic(auto, unfolding(crate::specs::Fields::mark_in))]
 fn mark_in(t: &[u8]) -> u32
     ensures { result ≡ mark_in t.now }
 {
-    if t.len() == 1 { t[0] as u32 } else { 0 }
+    match t {
+        [b] => u32::from(*b),
+        _ => 0,
+    }
 }
 
 // What stands in a field of which nothing is asked.
+#[tactic(auto, unfolding(crate::specs::Fields::cell_of))]
 pub fn no_cell() -> Cell
     ensures { result ≡ no_cell }
 {
     Cell {
         right: false,
         number: 0,
-        code: [0, 0, 0],
+        code: [0; 3],
     }
+}
+
+// A tab or LF.
+fn ends_field(b: u8) -> bool
+    ensures { result ≡ stops b }
+{
+    matches!(b, b'\t' | b'\n')
 }
 
 // The place of the first tab or LF from `at` on, or the end of the text.
 pub fn stop_of(t: &[u8], at: usize) -> usize
     ensures { result ≡ stop_of t.now at }
 {
-    let mut stop = at;
-    while stop < t.len() {
-        if t[stop] == b'\t' {
-            return stop;
-        }
-        if t[stop] == b'\n' {
-            return stop;
-        }
-        stop += 1;
-    }
-    stop
+    let rest = rest_from(t, at);
+    let length = rest.iter().position(|b| ends_field(*b));
+    at + length.unwrap_or(rest.len())
 }
 
 // Whether a tab or LF stands at i.
+#[tactic(auto, unfolding(crate::specs::Pieces::stops_at))]
 fn stops_at(t: &[u8], i: usize) -> bool
     ensures { result ≡ stops_at t.now i }
 {
-    if t.len() <= i {
-        return false;
-    }
-    laws::or(t[i] == b'\t', t[i] == b'\n')
+    i < t.len() && ends_field(t[i])
 }
 
 // No field.
+#[tactic(auto, unfolding(crate::specs::Fields::cell_of))]
 pub fn no_field() -> Field
     ensures { result ≡ no_field }
 {
@@ -160,16 +152,10 @@ fn number_field(number: u32, stop: usize) -> Field
         cell: Cell {
             right: true,
             number,
-            code: [0, 0, 0],
+            code: [0; 3],
         },
         stop,
     }
-}
-
-fn least(a: usize, b: usize) -> usize
-    ensures { (result ≤ a) × ((result ≤ b) × ((result ≡ a → ⊥) → result ≡ b)) }
-{
-    if a < b { a } else { b }
 }
 
 // The digits from `from` on, at most so many.
@@ -177,18 +163,15 @@ fn run_at(t: &[u8], from: usize, most: usize) -> Run
     requires { (from ≤ length t.now) × (most ≤ 9) }
     ensures { RunIs t.now from most result.number result.stop }
 {
-    let end = least(from + most, t.len());
-    let mut number: u32 = 0;
-    let mut stop = from;
-    while stop != end {
-        let b = t[stop] as u32;
-        if !laws::in_range(b'0' as u32, b'9' as u32, b) {
+    let end = t.len().min(from + most);
+    let mut number = 0;
+    for stop in from..end {
+        if !t[stop].is_ascii_digit() {
             return Run { number, stop };
         }
-        number = number * 10 + (b - b'0' as u32);
-        stop += 1;
+        number = number * 10 + u32::from(t[stop] - b'0');
     }
-    Run { number, stop }
+    Run { number, stop: end }
 }
 
 // The number field that begins at `from`, if it has its form and a tab or LF stands behind it; so the other fields.
@@ -198,8 +181,7 @@ pub fn number_at(t: &[u8], from: usize) -> Field
     if t.len() < from {
         return no_field();
     }
-    let r = run_at(t, from, 9);
-    let stop = r.stop;
+    let Run { number, stop } = run_at(t, from, 9);
     if !stops_at(t, stop) {
         return no_field();
     }
@@ -207,12 +189,12 @@ pub fn number_at(t: &[u8], from: usize) -> Field
         return no_field();
     }
     if stop - from == 1 {
-        return number_field(r.number, stop);
+        return number_field(number, stop);
     }
     if t[from] == b'0' {
         return no_field();
     }
-    number_field(r.number, stop)
+    number_field(number, stop)
 }
 
 fn fixed_at(t: &[u8], from: usize, width: usize) -> Field
@@ -222,23 +204,24 @@ fn fixed_at(t: &[u8], from: usize, width: usize) -> Field
     if t.len() < from {
         return no_field();
     }
-    let r = run_at(t, from, width);
-    let stop = r.stop;
+    let Run { number, stop } = run_at(t, from, width);
     if !stops_at(t, stop) {
         return no_field();
     }
     if stop - from != width {
         return no_field();
     }
-    number_field(r.number, stop)
+    number_field(number, stop)
 }
 
+#[tactic(auto, unfolding(crate::specs::Fields::field_at, crate::specs::Fields::cell_of))]
 fn account_at(t: &[u8], from: usize) -> Field
     ensures { result ≡ field_at Account t.now from }
 {
     fixed_at(t, from, 7)
 }
 
+#[tactic(auto, unfolding(crate::specs::Fields::field_at, crate::specs::Fields::cell_of))]
 pub fn date_at(t: &[u8], from: usize) -> Field
     ensures { result ≡ field_at Date t.now from }
 {
@@ -272,25 +255,20 @@ fn mark_at(t: &[u8], from: usize) -> Field
     number_field(mark_in(&t[from..stop]), stop)
 }
 
+#[tactic(auto, unfolding(crate::specs::Fields::nature_of))]
 fn nature_of(mark: u32, strike: u32) -> Nature
     ensures { result ≡ nature_of mark strike }
 {
-    if mark == b'C' as u32 {
-        return Nature::Call(strike);
+    match (u8::try_from(mark), strike) {
+        (Ok(b'C'), _) => Nature::Call(strike),
+        (Ok(b'P'), _) => Nature::Put(strike),
+        (Ok(b'F'), 0) => Nature::Future,
+        _ => Nature::Call(0),
     }
-    if mark == b'P' as u32 {
-        return Nature::Put(strike);
-    }
-    if mark != b'F' as u32 {
-        return Nature::Call(0);
-    }
-    if strike == 0 {
-        return Nature::Future;
-    }
-    Nature::Call(0)
 }
 
 // The series that a code, a date, a nature and a strike write.
+#[tactic(auto, unfolding(crate::specs::Fields::series_of))]
 pub fn series_of(code: Cell, date: Cell, mark: Cell, strike: Cell) -> Series
     ensures { result ≡ series_of code date mark strike }
 {
@@ -302,14 +280,8 @@ pub fn series_of(code: Cell, date: Cell, mark: Cell, strike: Cell) -> Series
     }
 }
 
-// The byte at i, or 0 behind the end of the text.
-fn byte_at(t: &[u8], i: usize) -> u8
-    ensures { (result ≡ get_or t.now i 0) × ((result ≡ 0 → ⊥) → i < length t.now) }
-{
-    if i < t.len() { t[i] } else { 0 }
-}
-
 // The field that begins at `from`, of which this is asked.
+#[tactic(auto, using(crate::specs::RunLaws::field_nothing), unfolding(crate::specs::Fields::field_at, crate::specs::Fields::cell_of))]
 pub fn field_at(asked: Asked, t: &[u8], from: usize) -> Field
     ensures { result ≡ field_at asked t.now from }
 {
@@ -324,16 +296,18 @@ pub fn field_at(asked: Asked, t: &[u8], from: usize) -> Field
 }
 
 // The field behind the tab at `at`, of which this is asked.
+#[tactic(auto, unfolding(crate::specs::Behind::field_behind))]
 pub fn field_behind(asked: Asked, t: &[u8], at: usize) -> Field
     ensures { result ≡ field_behind asked t.now at }
 {
-    if byte_at(t, at) != b'\t' {
-        return no_field();
+    match t.get(at) {
+        Some(b'\t') => field_at(asked, t, at + 1),
+        _ => no_field(),
     }
-    field_at(asked, t, at + 1)
 }
 
 // The series that the four fields behind the tab at `at` write.
+#[tactic(auto, unfolding(crate::specs::Behind::chain_behind, crate::specs::Behind::series_form, crate::specs::Behind::written_in))]
 pub fn series_behind(t: &[u8], at: usize) -> Written
     ensures { result ≡ written_in (chain_behind series_form t.now at) }
 {
@@ -341,13 +315,9 @@ pub fn series_behind(t: &[u8], at: usize) -> Written
     let date = field_behind(Asked::Date, t, code.stop);
     let mark = field_behind(Asked::Mark, t, date.stop);
     let strike = field_behind(Asked::Number, t, mark.stop);
-    let c = code.cell;
-    let d = date.cell;
-    let m = mark.cell;
-    let k = strike.cell;
     Written {
-        right: laws::and(c.right, laws::and(d.right, laws::and(m.right, k.right))),
-        series: series_of(c, d, m, k),
+        right: code.cell.right && date.cell.right && mark.cell.right && strike.cell.right,
+        series: series_of(code.cell, date.cell, mark.cell, strike.cell),
         stop: strike.stop,
     }
 }

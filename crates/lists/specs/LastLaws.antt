@@ -9,7 +9,7 @@ use native.Mathlib.Omega.{arith}
 use borrow.Author.Tests.{ne_eqb}
 use Rattle.std.proofs.Math.ListN.{length}
 use Rattle.std.proofs.Math.Seq.{get_or-append_seam}
-use Rattle.laws.specs.declared.Order.TheVariants.{Less}
+use Rattle.std.specs.declared.cmp.Ordering.TheVariants.{Less}
 use Rattle.laws.specs.Truth.{both}
 use Rattle.laws.specs.TruthLaws.{both_true}
 use Rattle.laws.specs.Order.{is_less, bytes_order}

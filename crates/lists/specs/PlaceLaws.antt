@@ -97,7 +97,7 @@ module _ {A : Type 0} where
   unfolding insert_at
   insert_append p x l r h = rw (take-append-le, drop-append-le, append_assoc)
 
-  remove_append : (p : ℕ) (l r : List A) → p < length l → remove_at p (l ++ r) ≡ remove_at p l ++ r
+  pub remove_append : (p : ℕ) (l r : List A) → p < length l → remove_at p (l ++ r) ≡ remove_at p l ++ r
   unfolding remove_at
   remove_append p l r h =
       let h1 : p ≤ length l = omega arith in

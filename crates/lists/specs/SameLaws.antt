@@ -4,7 +4,7 @@ use Rattle.std.proofs.Math.Path.{refl, sym}
 use Rattle.std.proofs.Common.{ap, ◌∙◌, subst}
 use Rattle.std.proofs.Math.Bool.{true, false}
 use mathlib.Core.List.{List, [], ◌∷◌}
-use Rattle.laws.specs.declared.Order.{Order}
+use Rattle.std.specs.declared.cmp.Ordering.{Ordering}
 use Rattle.laws.specs.TruthLaws.{both_true, by_test}
 use Rattle.laws.specs.Bytes.{same_bytes}
 use Rattle.laws.specs.ByteLaws.{are_same, same_self}
@@ -54,7 +54,7 @@ module _ {A C : Type 0} (rank : A → List ℕ) (read : C → A → ℕ) (none :
   same_rows (x ∷ l) (y ∷ m) a b g k h =
       let u = both_true (good x) _ g in
       let v = both_true (good y) _ k in
-      split_text (λ (o : Order). x ∷ l ≡ y ∷ m) (rank x) (rank y)
+      split_text (λ (o : Ordering). x ∷ l ≡ y ∷ m) (rank x) (rank y)
       (λ lt. absurd (not_alone x l (y ∷ m) u.0 (λ c. h c x) (rw (after_differs (rank y) (rank x) lt) (none_behind rank (rank x) (rank y) m lt b))))
       (λ is.
       let p = told x y u.0 v.0 is (λ c. sym (said_first c x x l refl) ∙ h c x ∙ said_first c x y m (sym is)) in

@@ -8,8 +8,8 @@ use mathlib.Core.List.{List, [], ◌∷◌, ◌++◌, map}
 use Prim.Native.Nat.{ℕ, zero, suc, ◌+◌, ◌<◌, ◌≤◌}
 use native.Mathlib.Omega.{arith}
 use Rattle.std.proofs.Math.ListN.{length}
-use Rattle.laws.specs.declared.Order.{Order}
-use Rattle.laws.specs.declared.Order.TheVariants.{Less}
+use Rattle.std.specs.declared.cmp.Ordering.{Ordering}
+use Rattle.std.specs.declared.cmp.Ordering.TheVariants.{Less}
 use Rattle.laws.specs.Truth.{pick, either}
 use Rattle.laws.specs.TruthLaws.{both_true, both_hold, clash, picked, by_test, false_unless}
 use Rattle.laws.specs.Bytes.{same_bytes}
@@ -84,7 +84,7 @@ module _ {A : Type 0} (rank : A → List ℕ) where
   unfolding look first_where placed
   look_placed none x [] = rw (same_self (rank x))
   look_placed none x (y ∷ l) =
-      split_text (λ (o : Order). look rank none (rank x) (by_order o (y ∷ placed rank x l) (x ∷ l) (x ∷ y ∷ l)) ≡ x) (rank y) (rank x)
+      split_text (λ (o : Ordering). look rank none (rank x) (by_order o (y ∷ placed rank x l) (x ∷ l) (x ∷ y ∷ l)) ≡ x) (rank y) (rank x)
       (λ lt. rw (before_differs (rank y) (rank x) lt) (look_placed none x l))
       (λ is. rw (same_self (rank x)))
       (λ gt. rw (same_self (rank x)))
@@ -102,7 +102,7 @@ module _ {A : Type 0} (rank : A → List ℕ) where
   unfolding look first_where placed
   other_placed none x k [] d = rw d
   other_placed none x k (y ∷ l) d =
-      split_text (λ (o : Order). look rank none k (by_order o (y ∷ placed rank x l) (x ∷ l) (x ∷ y ∷ l)) ≡ look rank none k (y ∷ l)) (rank y) (rank x)
+      split_text (λ (o : Ordering). look rank none k (by_order o (y ∷ placed rank x l) (x ∷ l) (x ∷ y ∷ l)) ≡ look rank none k (y ∷ l)) (rank y) (rank x)
       (λ lt. ap (λ (z : A). pick (same_bytes (rank y) k) y z) (other_placed none x k l d))
       (λ is. rw (is, d))
       (λ gt. rw d)
@@ -121,7 +121,7 @@ module _ {A : Type 0} (rank : A → List ℕ) where
   placed_after p x [] h e = rw h
   placed_after p x (y ∷ l) h e =
       let t = both_true (is_less (bytes_order p (rank y))) _ e in
-      split_text (λ (o : Order). ascending_from rank p (by_order o (y ∷ placed rank x l) (x ∷ l) (x ∷ y ∷ l)) ≡ true) (rank y) (rank x)
+      split_text (λ (o : Ordering). ascending_from rank p (by_order o (y ∷ placed rank x l) (x ∷ l) (x ∷ y ∷ l)) ≡ true) (rank y) (rank x)
       (λ lt. both_hold t.0 (placed_after (rank y) x l lt t.1))
       (λ is. both_hold (ap is_less h) (subst (λ (q : List ℕ). ascending_from rank q l ≡ true) is t.1))
       (λ gt. both_hold (ap is_less h) (both_hold (ap is_less gt) t.1))
@@ -130,7 +130,7 @@ module _ {A : Type 0} (rank : A → List ℕ) where
   unfolding ascending ascending_from placed
   placed_ascends x [] e = refl
   placed_ascends x (y ∷ l) e =
-      split_text (λ (o : Order). ascending rank (by_order o (y ∷ placed rank x l) (x ∷ l) (x ∷ y ∷ l)) ≡ true) (rank y) (rank x)
+      split_text (λ (o : Ordering). ascending rank (by_order o (y ∷ placed rank x l) (x ∷ l) (x ∷ y ∷ l)) ≡ true) (rank y) (rank x)
       (λ lt. placed_after (rank y) x l lt e)
       (λ is. subst (λ (q : List ℕ). ascending_from rank q l ≡ true) is e)
       (λ gt. both_hold (ap is_less gt) e)
@@ -159,7 +159,7 @@ module _ {A : Type 0} (rank : A → List ℕ) where
     placed_every x [] h e = both_hold h refl
     placed_every x (y ∷ l) h e =
         let t = both_true (test y) _ e in
-        split_text (λ (o : Order). every_line test (by_order o (y ∷ placed rank x l) (x ∷ l) (x ∷ y ∷ l)) ≡ true) (rank y) (rank x)
+        split_text (λ (o : Ordering). every_line test (by_order o (y ∷ placed rank x l) (x ∷ l) (x ∷ y ∷ l)) ≡ true) (rank y) (rank x)
         (λ lt. both_hold t.0 (placed_every x l h t.1))
         (λ is. both_hold h t.1)
         (λ gt. both_hold h e)
@@ -188,7 +188,7 @@ module _ {A : Type 0} (rank : A → List ℕ) where
   unfolding placed
   placed_longer x [] = omega arith
   placed_longer x (y ∷ l) =
-      split_text (λ (o : Order). length (by_order o (y ∷ placed rank x l) (x ∷ l) (x ∷ y ∷ l)) ≤ suc (length l) + 1) (rank y) (rank x)
+      split_text (λ (o : Ordering). length (by_order o (y ∷ placed rank x l) (x ∷ l) (x ∷ y ∷ l)) ≤ suc (length l) + 1) (rank y) (rank x)
       (λ lt. let h = placed_longer x l in omega arith)
       (λ is. omega arith)
       (λ gt. omega arith)
@@ -197,7 +197,7 @@ module _ {A : Type 0} (rank : A → List ℕ) where
   unfolding placed stands ascending
   placed_over x [] a s = absurd (clash s refl)
   placed_over x (y ∷ l) a s =
-      split_text (λ (o : Order). length (by_order o (y ∷ placed rank x l) (x ∷ l) (x ∷ y ∷ l)) ≡ suc (length l)) (rank y) (rank x)
+      split_text (λ (o : Ordering). length (by_order o (y ∷ placed rank x l) (x ∷ l) (x ∷ y ∷ l)) ≡ suc (length l)) (rank y) (rank x)
       (λ lt. ap suc (placed_over x l (ascending_rest (rank y) l a) (subst (λ (b : Bool). either b (stands rank (rank x) l) ≡ true) (before_differs (rank y) (rank x) lt) s)))
       (λ is. refl)
       (λ gt. absurd (clash (subst (λ (b : Bool). either b (stands rank (rank x) l) ≡ true) (after_differs (rank y) (rank x) gt) s) (none_behind (rank x) (rank y) l gt a)))
@@ -216,7 +216,7 @@ module _ {A : Type 0} (rank : A → List ℕ) where
     unfolding sum_of placed look first_where ascending
     sum_placed x [] a = omega (arith, nothing)
     sum_placed x (y ∷ l) a =
-        split_text (λ (o : Order). sum_of f (by_order o (y ∷ placed rank x l) (x ∷ l) (x ∷ y ∷ l)) + f (pick (same_bytes (rank y) (rank x)) y (look rank none (rank x) l)) ≡ f y + sum_of f l + f x) (rank y) (rank x)
+        split_text (λ (o : Ordering). sum_of f (by_order o (y ∷ placed rank x l) (x ∷ l) (x ∷ y ∷ l)) + f (pick (same_bytes (rank y) (rank x)) y (look rank none (rank x) l)) ≡ f y + sum_of f l + f x) (rank y) (rank x)
         (λ lt. let h = sum_placed x l (ascending_rest (rank y) l a) in rw (before_differs (rank y) (rank x) lt) (omega arith))
         (λ is. rw (is, same_self (rank x)) (omega arith))
         (λ gt. rw (after_differs (rank y) (rank x) gt, look_none none (rank x) l (none_behind (rank x) (rank y) l gt a)) (omega (arith, nothing)))

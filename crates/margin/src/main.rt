@@ -23,5 +23,9 @@ fn main(rt: HostRuntime) -> io::Result<()> {
     let mut sheet = [0u8; 65537];
     let b = files::load(&rt, b"book", &mut book)?;
     let s = files::load(&rt, b"sheet", &mut sheet)?;
-    print(&mut rt.stdout(), &book[..b.count], &sheet[..s.count])
+    print(
+        &mut rt.stdout(),
+        &book[..b.unwrap_or(0)],
+        &sheet[..s.unwrap_or(0)],
+    )
 }

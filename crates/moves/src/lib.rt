@@ -1,118 +1,86 @@
-// Make, open, close and turn. Each answers with a number and a book: 0 and the book that results, or the number of the first check
-// that fails and the book as it was handed in.
+// Make, open, close and turn. Each answers with the book that results, or with the refusal of the first check that fails.
 #![tactic(auto)]
 
 ghost use Rattle.std.specs.Prelude.{◌≡◌, ◌+◌, ◌≤◌, take};
 ghost use Rattle.laws.specs.Checks.{first_failing};
+ghost use Rattle.laws.specs.Refusals.{number_in};
 ghost use Rattle.lists.specs.Sorted.{kept};
 ghost use Rattle.lists.specs.Kept.{Keeping};
 ghost use Rattle.rows.specs.Rows.{holding_rank, no_lots, lots_on, added, empty_holding};
-ghost use Rattle.rows.specs.Book.{held_rows, holdings_of, with_holdings, with_day};
-ghost use Rattle.calls.specs.Calls.{make_answer, held_of, open_checks, opened, open_answer, close_checks, closed, close_answer, turn_checks, turn_answer};
+ghost use Rattle.rows.specs.Book.{holdings_of, with_holdings, no_book};
+ghost use Rattle.calls.specs.Outcome.{outcome_in};
+ghost use Rattle.calls.specs.Calls.{make_checks, make_answer, held_of, open_checks, opened, open_answer, close_checks, closed, close_answer, turn_checks, turn_answer};
 ghost use Rattle.calls.specs.Facts.{Opens, Closes};
 
-use calls::Outcome;
-use lists::Slot;
+use laws::Refusal;
 use rows::{Book, Holding};
 use series::{Series, Side};
-
-// The book with other holdings.
-fn with_holdings(b: Book, rows: [Holding; 128], held: usize) -> Book
-    ensures { result ≡ held_rows b rows held }
-{
-    let mut c = b;
-    c.holdings = rows;
-    c.held = held;
-    c
-}
 
 // The book with the holding in its place, or with its place given up where no lots are left.
 fn keep_holding(b: Book, h: Holding) -> Book
     requires { Keeping empty_holding holding_rank b.held b.holdings h }
     ensures { result ≡ with_holdings b (kept holding_rank no_lots h (holdings_of b)) }
 {
-    let rows = b.holdings;
-    let held = b.held;
-    let gone = rows::no_lots(h);
-    let slot = places::find_holding(rows, held, h);
-    match slot {
-        Slot::At(i) => {
-            if gone {
-                return with_holdings(b, places::remove_holding(rows, i), held - 1);
-            }
-            with_holdings(b, places::set_holding(rows, i, h), held)
-        }
-        Slot::Before(i) => {
-            if gone {
-                return with_holdings(b, rows, held);
-            }
-            with_holdings(b, places::insert_holding(rows, i, h), held + 1)
-        }
-    }
+    let mut c = b;
+    c.held = places::keep(&mut c.holdings, b.held, h);
+    c
 }
 
 // What is held of a series.
+#[tactic(auto, unfolding(calls::specs::Calls::held_of, rules::specs::Lots::total))]
 fn held_of(rows: [Holding; 128], held: usize, s: Series) -> Holding
     ensures { result ≡ held_of (take held rows) s }
 {
     let h = places::holding_in(rows, held, s);
-    Holding {
-        series: s,
-        long: h.long,
-        short: h.short,
-    }
+    Holding { series: s, ..h }
 }
 
 fn add_lots(side: Side, lots: u32, h: Holding) -> Holding
     requires { lots_on side h + lots ≤ 100000 }
     ensures { result ≡ added side lots h }
 {
-    let s = h.series;
     match side {
         Side::Long => Holding {
-            series: s,
             long: h.long + lots,
-            short: h.short,
+            ..h
         },
         Side::Short => Holding {
-            series: s,
-            long: h.long,
             short: h.short + lots,
+            ..h
         },
     }
+}
+
+#[tactic(auto, unfolding(calls::specs::Calls::make_checks, laws::specs::Checks::first_failing))]
+fn make_check(account: u32, identity: u8, day: u32) -> Result<(), Refusal>
+    ensures { number_in result ≡ first_failing (make_checks account identity day) }
+{
+    let head = rules::account_fits(account) && rules::is_identity(identity);
+    laws::ensure(head, Refusal::OutOfRange)?;
+    laws::ensure(dates::is_day(day), Refusal::NoSuchDate)
 }
 
 // Make an empty book.
-pub fn make(account: u32, identity: u8, day: u32) -> Outcome
-    ensures { result ≡ make_answer account identity day }
+#[tactic(auto, using(calls::proofs::AnswerLaws::make_refused, calls::proofs::AnswerLaws::make_accepted))]
+pub fn make(account: u32, identity: u8, day: u32) -> Result<Book, Refusal>
+    ensures { outcome_in no_book result ≡ make_answer account identity day }
 {
-    let head = laws::and(rules::account_fits(account), rules::is_identity(identity));
-    let number = laws::unless(2, head, laws::unless(5, dates::is_day(day), 0));
-    if number != 0 {
-        return Outcome {
-            number,
-            book: rows::empty_book(0, b'0', 20000101),
-        };
-    }
-    Outcome {
-        number: 0,
-        book: rows::empty_book(account, identity, day),
-    }
+    make_check(account, identity, day)?;
+    Ok(rows::empty_book(account, identity, day))
 }
 
-fn open_number(b: Book, s: Series, side: Side, lots: u32) -> u8
-    ensures { result ≡ first_failing (open_checks b s side lots) }
+#[tactic(auto, using(calls::specs::NumberLaws::open_says), unfolding(rows::specs::Book::holdings_of))]
+fn open_check(b: Book, s: Series, side: Side, lots: u32) -> Result<(), Refusal>
+    ensures { number_in result ≡ first_failing (open_checks b s side lots) }
 {
-    if !sound::is_sound(b) {
-        return 16;
-    }
+    laws::ensure(sound::is_sound(b), Refusal::NotSound)?;
+    series::check(s)?;
+    laws::ensure(laws::in_range(1, 100000, lots), Refusal::WrongCount)?;
     let rows = b.holdings;
     let h = held_of(rows, b.held, s);
     let sum = rows::lots_on(side, h) as u64 + lots as u64;
-    let room = laws::or(!rows::no_lots(h), b.held < 128);
-    let total = laws::unless(7, sum <= 100000, laws::unless(8, room, 0));
-    let rest = laws::unless(6, laws::in_range(1, 100000, lots), total);
-    laws::or_else(series::series_number(s), rest)
+    laws::ensure(sum <= 100000, Refusal::TooManyLots)?;
+    laws::ensure(!rows::no_lots(h) || b.held < 128, Refusal::BookFull)
 }
 
 fn open_book(b: Book, s: Series, side: Side, lots: u32) -> Book
@@ -125,31 +93,25 @@ fn open_book(b: Book, s: Series, side: Side, lots: u32) -> Book
 }
 
 // Open lots of a series on a side.
-pub fn open(b: Book, s: Series, side: Side, lots: u32) -> Outcome
-    ensures { result ≡ open_answer b s side lots }
+#[tactic(auto, using(calls::proofs::AnswerLaws::open_refused, calls::proofs::AnswerLaws::open_opens, calls::proofs::AnswerLaws::open_accepted))]
+pub fn open(b: Book, s: Series, side: Side, lots: u32) -> Result<Book, Refusal>
+    ensures { outcome_in b result ≡ open_answer b s side lots }
 {
-    let number = open_number(b, s, side, lots);
-    if number != 0 {
-        return Outcome { number, book: b };
-    }
-    Outcome {
-        number: 0,
-        book: open_book(b, s, side, lots),
-    }
+    open_check(b, s, side, lots)?;
+    Ok(open_book(b, s, side, lots))
 }
 
-fn close_number(b: Book, s: Series, side: Side, lots: u32) -> u8
-    ensures { result ≡ first_failing (close_checks b s side lots) }
+#[tactic(auto, using(calls::specs::NumberLaws::close_says))]
+fn close_check(b: Book, s: Series, side: Side, lots: u32) -> Result<(), Refusal>
+    ensures { number_in result ≡ first_failing (close_checks b s side lots) }
 {
     let c = sound::checked_book(b);
-    if !c.sound {
-        return 16;
-    }
+    laws::ensure(c.sound, Refusal::NotSound)?;
+    series::check(s)?;
+    laws::ensure(laws::in_range(1, 100000, lots), Refusal::WrongCount)?;
     let free = c.free;
     let h = places::holding_in(free, b.held, s);
-    let enough = laws::unless(9, lots <= rows::lots_on(side, h), 0);
-    let rest = laws::unless(6, laws::in_range(1, 100000, lots), enough);
-    laws::or_else(series::series_number(s), rest)
+    laws::ensure(lots <= rows::lots_on(side, h), Refusal::NotFree)
 }
 
 fn close_book(b: Book, s: Series, side: Side, lots: u32) -> Book
@@ -162,46 +124,28 @@ fn close_book(b: Book, s: Series, side: Side, lots: u32) -> Book
 }
 
 // Close free lots of a series on a side.
-pub fn close(b: Book, s: Series, side: Side, lots: u32) -> Outcome
-    ensures { result ≡ close_answer b s side lots }
+#[tactic(auto, using(calls::proofs::AnswerLaws::close_refused, calls::proofs::AnswerLaws::close_closes, calls::proofs::AnswerLaws::close_accepted))]
+pub fn close(b: Book, s: Series, side: Side, lots: u32) -> Result<Book, Refusal>
+    ensures { outcome_in b result ≡ close_answer b s side lots }
 {
-    let number = close_number(b, s, side, lots);
-    if number != 0 {
-        return Outcome { number, book: b };
-    }
-    Outcome {
-        number: 0,
-        book: close_book(b, s, side, lots),
-    }
+    close_check(b, s, side, lots)?;
+    Ok(close_book(b, s, side, lots))
 }
 
-fn with_day(b: Book, day: u32) -> Book
-    ensures { result ≡ with_day b day }
+#[tactic(auto, using(calls::specs::NumberLaws::turn_says))]
+fn turn_check(b: Book, day: u32) -> Result<(), Refusal>
+    ensures { number_in result ≡ first_failing (turn_checks b day) }
 {
-    let mut c = b;
-    c.day = day;
-    c
-}
-
-fn turn_number(b: Book, day: u32) -> u8
-    ensures { result ≡ first_failing (turn_checks b day) }
-{
-    if !sound::is_sound(b) {
-        return 16;
-    }
-    laws::unless(5, dates::is_day(day), laws::unless(13, b.day < day, 0))
+    laws::ensure(sound::is_sound(b), Refusal::NotSound)?;
+    laws::ensure(dates::is_day(day), Refusal::NoSuchDate)?;
+    laws::ensure(b.day < day, Refusal::WrongDay)
 }
 
 // Turn the book to a later day.
-pub fn turn(b: Book, day: u32) -> Outcome
-    ensures { result ≡ turn_answer b day }
+#[tactic(auto, using(calls::proofs::AnswerLaws::turn_refused, calls::proofs::AnswerLaws::turn_accepted), unfolding(rows::specs::Book::with_day))]
+pub fn turn(b: Book, day: u32) -> Result<Book, Refusal>
+    ensures { outcome_in b result ≡ turn_answer b day }
 {
-    let number = turn_number(b, day);
-    if number != 0 {
-        return Outcome { number, book: b };
-    }
-    Outcome {
-        number: 0,
-        book: with_day(b, day),
-    }
+    turn_check(b, day)?;
+    Ok(Book { day, ..b })
 }

@@ -7,7 +7,7 @@ use Rattle.laws.specs.TruthLaws.{both_true, either_true, clash}
 use Rattle.laws.specs.Text.{three}
 use Rattle.laws.specs.Bytes.{same_bytes}
 use Rattle.laws.specs.ByteLaws.{are_same, same_self}
-use Rattle.laws.specs.Checks.{all_pass, numbered}
+use Rattle.laws.specs.Checks.{first_failing, all_pass, numbered}
 use Rattle.laws.specs.CheckLaws.{by_number}
 use Rattle.laws.specs.Kinds.{by_kind}
 use Rattle.laws.specs.KindLaws.{each_kind}
@@ -29,6 +29,19 @@ pairs_numbered p = refl
 pub stands_by_number : (kind : ℕ) (a b : Series) (r1 r2 : ℕ) → eqb (pair_number kind a b r1 r2) 0 ≡ may_stand kind a b r1 r2
 unfolding pair_number may_stand
 stands_by_number kind a b r1 r2 = by_number (pair_checks (parts_of kind a b r1 r2)) (pairs_numbered (parts_of kind a b r1 r2))
+
+-- Its number is 0 where it may stand, and 10 where not.
+number_of_checks : (p : Parts) → first_failing (pair_checks p) ≡ pick (all_pass (pair_checks p)) 0 10
+unfolding first_failing all_pass pair_checks
+number_of_checks p = go p.kind _ _ (go p.codes _ _ (go p.natures _ _ (go p.dates _ _ (go p.strikes _ _ (go p.ratio 0 true refl)))))
+  where
+    go : (t : Bool) (n : ℕ) (rest : Bool) → n ≡ pick rest 0 10 → pick t n 10 ≡ pick (both t rest) 0 10
+    go true n rest e = e
+    go false n rest e = refl
+
+pub number_by_standing : (kind : ℕ) (a b : Series) (r1 r2 : ℕ) → pair_number kind a b r1 r2 ≡ pick (may_stand kind a b r1 r2) 0 10
+unfolding pair_number may_stand
+number_by_standing kind a b r1 r2 = number_of_checks (parts_of kind a b r1 r2)
 
 -- A pair that may stand meets every part of its kind's rule.
 pub record Meets (p : Parts) : Type 0 where

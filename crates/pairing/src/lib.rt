@@ -5,8 +5,10 @@ ghost use Rattle.std.specs.Prelude.{◌≡◌};
 ghost use Rattle.pairing.specs.Rules.{rule, future_with_option, between_products, no_rule, parts_of, pair_checks, pair_number, may_stand};
 ghost use Rattle.pairing.specs.Sides.{first_side, second_side};
 ghost use Rattle.legs.specs.Legs.{same_code, same_nature, one_to_one};
-ghost use Rattle.laws.specs.Checks.{first_failing};
+ghost use Rattle.laws.specs.Checks.{all_pass};
+ghost use Rattle.laws.specs.Refusals.{number_in};
 
+use laws::Refusal;
 use series::{Series, Side};
 
 // Which parts of its kind's rule a pair meets.
@@ -48,16 +50,18 @@ fn no_rule() -> Parts
 }
 
 // Kind 5: the two codes select the ratios that are allowed.
+#[tactic(auto, unfolding(crate::specs::Rules::future_with_option))]
 fn future_with_option(future: Series, option: Series, r1: u32, r2: u32) -> Parts
     ensures { result ≡ future_with_option future option r1 r2 }
 {
-    let f = future.code;
-    let o = option.code;
-    let allowed = legs::allowed_of(f, o);
-    let codes = legs::is_couple(allowed);
-    let natures = legs::future_then_option(future, option);
-    let ratio = legs::fits_ratio(allowed, r1, r2);
-    rule_of(codes, natures, true, true, ratio)
+    let allowed = legs::allowed_of(future.code, option.code);
+    rule_of(
+        legs::is_couple(allowed),
+        legs::future_then_option(future, option),
+        true,
+        true,
+        legs::fits_ratio(allowed, r1, r2),
+    )
 }
 
 // A kind that asks for one code, and for one lot to one.
@@ -89,15 +93,21 @@ fn one_nature(a: Series, b: Series, dates: bool, strikes: bool, r1: u32, r2: u32
 }
 
 // Kind 8: futures of two products.
+#[tactic(auto, unfolding(crate::specs::Rules::between_products))]
 fn two_products(a: Series, b: Series, r1: u32, r2: u32) -> Parts
     ensures { result ≡ between_products a b r1 r2 }
 {
-    let codes = legs::are_two_products(a, b);
-    let futures = legs::both_futures(a, b);
-    rule_of(codes, futures, true, true, legs::one_to_one(r1, r2))
+    rule_of(
+        legs::are_two_products(a, b),
+        legs::both_futures(a, b),
+        true,
+        true,
+        legs::one_to_one(r1, r2),
+    )
 }
 
 // Which parts of its kind's rule a pair meets: codes, natures, dates, strikes, ratio.
+#[tactic(auto, unfolding(crate::specs::Rules::parts_of, laws::specs::Kinds::by_kind, crate::specs::Rules::debit_vertical, crate::specs::Rules::credit_vertical, crate::specs::Rules::time_spread, crate::specs::Rules::two_short, crate::specs::Rules::conversion, crate::specs::Rules::calendar))]
 pub fn parts_of(kind: u32, a: Series, b: Series, r1: u32, r2: u32) -> Parts
     ensures { result ≡ parts_of kind a b r1 r2 }
 {
@@ -122,51 +132,44 @@ pub fn parts_of(kind: u32, a: Series, b: Series, r1: u32, r2: u32) -> Parts
     }
 }
 
-// The number of the first part that fails, or 0.
-fn first_part(p: Parts) -> u8
-    ensures { result ≡ first_failing (pair_checks p) }
+// Whether a pair meets every part of its kind's rule.
+#[tactic(auto, unfolding(crate::specs::Rules::pair_checks, laws::specs::Checks::all_pass), using(laws::specs::TruthLaws::both_end))]
+fn meets_all(p: Parts) -> bool
+    ensures { result ≡ all_pass (pair_checks p) }
 {
-    let ratio = laws::unless(10, p.ratio, 0);
-    let strikes = laws::unless(10, p.strikes, ratio);
-    let dates = laws::unless(10, p.dates, strikes);
-    let natures = laws::unless(10, p.natures, dates);
-    let codes = laws::unless(10, p.codes, natures);
-    laws::unless(10, p.kind, codes)
-}
-
-// The number that a pair is refused by, or 0.
-pub fn pair_number(kind: u32, a: Series, b: Series, r1: u32, r2: u32) -> u8
-    ensures { result ≡ pair_number kind a b r1 r2 }
-{
-    first_part(parts_of(kind, a, b, r1, r2))
+    p.kind && p.codes && p.natures && p.dates && p.strikes && p.ratio
 }
 
 // Whether a pair may stand.
+#[tactic(auto, unfolding(crate::specs::Rules::may_stand))]
 pub fn may_stand(kind: u32, a: Series, b: Series, r1: u32, r2: u32) -> bool
     ensures { result ≡ may_stand kind a b r1 r2 }
 {
-    pair_number(kind, a, b, r1, r2) == 0
+    meets_all(parts_of(kind, a, b, r1, r2))
+}
+
+// The check of a pair: its kind's rule.
+#[tactic(auto, using(crate::specs::PairLaws::number_by_standing))]
+pub fn check(kind: u32, a: Series, b: Series, r1: u32, r2: u32) -> Result<(), Refusal>
+    ensures { number_in result ≡ pair_number kind a b r1 r2 }
+{
+    laws::ensure(may_stand(kind, a, b, r1, r2), Refusal::NotAllowed)
 }
 
 // The side of a pair's first leg.
+#[tactic(auto, unfolding(crate::specs::Sides::first_side))]
 pub fn first_side(kind: u32, second: Series) -> Side
     ensures { result ≡ first_side kind second }
 {
-    let n = second.nature;
-    if kind == 4 {
-        return Side::Short;
+    match kind {
+        4 => Side::Short,
+        5 if series::is_put(second.nature) => Side::Short,
+        _ => Side::Long,
     }
-    if kind == 5 {
-        return if series::is_put(n) {
-            Side::Short
-        } else {
-            Side::Long
-        };
-    }
-    Side::Long
 }
 
 // The side of a pair's second leg.
+#[tactic(auto, unfolding(crate::specs::Sides::second_side))]
 pub fn second_side(kind: u32) -> Side
     ensures { result ≡ second_side kind }
 {

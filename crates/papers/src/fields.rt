@@ -1,67 +1,35 @@
 // Fields of a line, and what is printed. The letter is field 0, the fields behind it are 1, 2 and so on.
-ghost use Rattle.std.specs.Prelude.{◌≤◌, length};
-
 use series::{Nature, Series};
 use std::io;
 use std::io::Write;
 
-// Where field k begins: behind the k-th tab, or at the end.
-fn place(line: &[u8], k: usize) -> usize
-    ensures { result ≤ length line.now }
-{
-    let mut left = k;
-    let mut i: usize = 0;
-    while i < line.len() {
-        if left == 0 {
-            return i;
-        }
-        let b = line[i];
-        i += 1;
-        if b == b'\t' {
-            left -= 1;
-        }
-    }
-    i
-}
-
-// The byte at i; 0 for a tab and behind the end.
-fn byte(line: &[u8], i: usize) -> u8 {
-    if line.len() <= i {
-        return 0;
-    }
-    if line[i] == b'\t' {
-        return 0;
-    }
-    line[i]
+// What stands in field k: behind the k-th tab, nothing where there is none.
+fn field(line: &[u8], k: usize) -> &[u8] {
+    line.split(|b| *b == b'\t').nth(k).unwrap_or(b"")
 }
 
 // The first letter of field k; 0 where it has none.
 pub fn letter(line: &[u8], k: usize) -> u8 {
-    byte(line, place(line, k))
+    field(line, k).first().copied().unwrap_or(0)
 }
 
 // The number that the digits of field k are.
 pub fn value(line: &[u8], k: usize) -> u32 {
     let mut n: u64 = 0;
-    let mut i = place(line, k);
-    while i < line.len() {
-        let b = line[i];
-        if b == b'\t' {
-            break;
-        }
-        n = n % 1000000000000 * 10 + (b % 16) as u64;
-        i += 1;
+    for b in field(line, k) {
+        n = n % 1000000000000 * 10 + u64::from(b % 16);
     }
     (n % 4294967296) as u32
 }
 
 // The first three letters of field k, with zeros behind them.
 pub fn letters(line: &[u8], k: usize) -> [u8; 3] {
-    let at = place(line, k);
-    let a = byte(line, at);
-    let b = laws::unless(0, a != 0, byte(line, at + 1));
-    let c = laws::unless(0, b != 0, byte(line, at + 2));
-    [a, b, c]
+    let mut code = [0; 3];
+    let letters = field(line, k).iter().take_while(|b| **b != 0);
+    for (to, from) in code.iter_mut().zip(letters) {
+        *to = *from;
+    }
+    code
 }
 
 fn nature_of(letter: u8, strike: u32) -> Nature {
@@ -100,5 +68,5 @@ pub fn put_amount<W: Write>(out: &mut W, n: u64) -> io::Result<()> {
 }
 
 pub fn put_number<W: Write>(out: &mut W, n: u8) -> io::Result<()> {
-    put_amount(out, n as u64)
+    put_amount(out, u64::from(n))
 }

@@ -1,7 +1,8 @@
 // Amounts: fixed futures, rates of stocks, units of pairs.
 use super::fields;
 use amounts::{IndexLine, Lot, StockLine, Terms};
-use levels::{Answer, Levels};
+use laws::Refusal;
+use levels::Levels;
 use std::io;
 use std::io::Write;
 
@@ -67,9 +68,10 @@ fn put_levels<W: Write>(out: &mut W, l: Levels) -> io::Result<()> {
     fields::put_amount(out, l.initial)
 }
 
-fn put_answer<W: Write>(out: &mut W, a: Answer) -> io::Result<()> {
-    fields::put_number(out, a.number)?;
-    put_levels(out, a.levels)
+// The number and the levels: 0 where nothing is refused, and zeros with a refusal.
+fn put_answer<W: Write>(out: &mut W, a: Result<Levels, Refusal>) -> io::Result<()> {
+    fields::put_number(out, a.err().map_or(0, Refusal::number))?;
+    put_levels(out, a.unwrap_or(levels::same_at_all(0)))
 }
 
 fn put_lot<W: Write>(out: &mut W, lot: Lot) -> io::Result<()> {
@@ -108,7 +110,7 @@ fn put_unit<W: Write>(
 fn answer_rates<W: Write>(out: &mut W, line: &[u8]) -> io::Result<()> {
     let a = levels::stock_rates(fields::value(line, 1), fields::value(line, 2));
     put_answer(out, a)?;
-    put_levels(out, levels::halves(a.levels))
+    put_levels(out, levels::halves(a.unwrap_or(levels::same_at_all(0))))
 }
 
 fn answer_index<W: Write>(out: &mut W, line: &[u8]) -> io::Result<()> {

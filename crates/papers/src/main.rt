@@ -33,8 +33,6 @@ mod single; // days, codes, series, their order, the rule of pairs, make
 mod figures; // amounts of lots and of units
 mod spoilt; // calls on books that break a rule
 
-ghost use Rattle.std.specs.Prelude.{◌≤◌, length};
-
 use std::io;
 use std::io::{BufWriter, Read, Write};
 
@@ -47,27 +45,9 @@ fn answer_line<W: Write>(out: &mut W, line: &[u8]) -> io::Result<()> {
     fields::put(out, b"\n")
 }
 
-// Where the line that begins at `at` ends.
-fn line_end(text: &[u8], at: usize) -> usize
-    requires { at ≤ length text.now }
-    ensures { (at ≤ result) × (result ≤ length text.now) }
-{
-    let mut i = at;
-    while i < text.len() {
-        if text[i] == b'\n' {
-            return i;
-        }
-        i += 1;
-    }
-    i
-}
-
 fn answer_all<W: Write>(out: &mut W, text: &[u8]) -> io::Result<()> {
-    let mut at: usize = 0;
-    while at < text.len() {
-        let end = line_end(text, at);
-        answer_line(out, &text[at..end])?;
-        at = end + 1;
+    for line in text.split_inclusive(|b| *b == b'\n') {
+        answer_line(out, line.strip_suffix(b"\n").unwrap_or(line))?;
     }
     Ok(())
 }

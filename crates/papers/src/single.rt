@@ -1,10 +1,17 @@
 // Single answers: days, codes, series, their order, the rule of pairs, make.
 use super::fields;
 use codes::Class;
+use laws::Refusal;
 use pairing::Parts;
 use series::Side;
+use std::cmp::Ordering;
 use std::io;
 use std::io::Write;
+
+// The number of an answer: 0 where nothing is refused.
+pub fn put_answer<W: Write>(out: &mut W, answer: Result<(), Refusal>) -> io::Result<()> {
+    fields::put_number(out, answer.err().map_or(0, Refusal::number))
+}
 
 fn side_letter(side: Side) -> u8 {
     match side {
@@ -39,26 +46,31 @@ fn answer_code<W: Write>(out: &mut W, line: &[u8]) -> io::Result<()> {
 }
 
 fn answer_order<W: Write>(out: &mut W, line: &[u8]) -> io::Result<()> {
-    let order = series::compare(fields::series(line, 1), fields::series(line, 5));
-    let later = laws::unless(b'>', laws::is_same(order), b'=');
-    fields::put(
-        out,
-        &[b'\t', laws::unless(later, laws::is_less(order), b'<')],
-    )
+    let sign = match series::compare(fields::series(line, 1), fields::series(line, 5)) {
+        Ordering::Less => b'<',
+        Ordering::Equal => b'=',
+        Ordering::Greater => b'>',
+    };
+    fields::put(out, &[b'\t', sign])
 }
 
-// The parts of a rule by letter, a dash for one that fails.
+// The letter of a part that is met, a dash for one that fails.
+fn part_letter(met: bool, letter: u8) -> u8 {
+    if met { letter } else { b'-' }
+}
+
+// The parts of a rule by letter.
 fn put_parts<W: Write>(out: &mut W, parts: Parts) -> io::Result<()> {
     fields::put(
         out,
         &[
             b'\t',
-            laws::unless(b'-', parts.kind, b'k'),
-            laws::unless(b'-', parts.codes, b'c'),
-            laws::unless(b'-', parts.natures, b'n'),
-            laws::unless(b'-', parts.dates, b'd'),
-            laws::unless(b'-', parts.strikes, b's'),
-            laws::unless(b'-', parts.ratio, b'r'),
+            part_letter(parts.kind, b'k'),
+            part_letter(parts.codes, b'c'),
+            part_letter(parts.natures, b'n'),
+            part_letter(parts.dates, b'd'),
+            part_letter(parts.strikes, b's'),
+            part_letter(parts.ratio, b'r'),
         ],
     )
 }
@@ -69,7 +81,7 @@ fn answer_pair<W: Write>(out: &mut W, line: &[u8]) -> io::Result<()> {
     let b = fields::series(line, 6);
     let r1 = fields::value(line, 10);
     let r2 = fields::value(line, 11);
-    fields::put_number(out, pairing::pair_number(k, a, b, r1, r2))?;
+    put_answer(out, pairing::check(k, a, b, r1, r2))?;
     put_parts(out, pairing::parts_of(k, a, b, r1, r2))?;
     let first = side_letter(pairing::first_side(k, b));
     let second = side_letter(pairing::second_side(k));
@@ -82,17 +94,17 @@ fn answer_make<W: Write>(out: &mut W, line: &[u8]) -> io::Result<()> {
         fields::letter(line, 2),
         fields::value(line, 3),
     );
-    fields::put_number(out, made.number)
+    put_answer(out, made.map(|_| ()))
 }
 
 pub fn answer<W: Write>(out: &mut W, line: &[u8]) -> io::Result<()> {
     match fields::letter(line, 0) {
-        b'D' => fields::put_number(
-            out,
-            laws::unless(5, dates::is_day(fields::value(line, 1)), 0),
-        ),
+        b'D' => {
+            let day = dates::is_day(fields::value(line, 1));
+            put_answer(out, laws::ensure(day, Refusal::NoSuchDate))
+        }
         b'C' => answer_code(out, line),
-        b'S' => fields::put_number(out, series::series_number(fields::series(line, 1))),
+        b'S' => put_answer(out, series::check(fields::series(line, 1))),
         b'O' => answer_order(out, line),
         b'M' => answer_pair(out, line),
         b'B' => answer_make(out, line),

@@ -2,7 +2,7 @@
 ghost use Rattle.std.specs.Prelude.{◌<◌};
 
 use super::fields;
-use calls::Outcome;
+use laws::Refusal;
 use rows::{Book, Holding, Pair};
 use series::{Nature, Series, Side};
 use std::io;
@@ -108,10 +108,8 @@ fn holdings_of(line: &[u8], way: u32) -> [Holding; 128]
     requires { way < 64 }
 {
     let mut rows = [rows::empty_holding(); 128];
-    let mut i: u8 = 0;
-    while i < 128 {
+    for i in 0..128u8 {
         rows[place_of(way == 6, i)] = spoil_holding(way * 128 + i as u32, holding_of(line, i));
-        i += 1;
     }
     rows
 }
@@ -121,10 +119,8 @@ fn pairs_of(line: &[u8], way: u32) -> [Pair; 128]
     requires { way < 64 }
 {
     let mut rows = [rows::empty_pair(); 128];
-    let mut i: u8 = 0;
-    while i < 128 {
+    for i in 0..128u8 {
         rows[place_of(way == 13, i)] = spoil_pair(way * 128 + i as u32, pair_of(line, i));
-        i += 1;
     }
     rows
 }
@@ -157,34 +153,29 @@ fn mixed_series(d: u64, s: Series, x: u32, y: u32) -> u64 {
 
 // A holding and a pair, mixed in.
 fn mixed_rows(d: u64, h: Holding, p: Pair) -> u64 {
-    let held = h.series;
-    let first = p.first;
-    let second = p.second;
-    let lots = mixed_series(d, held, h.long, h.short);
-    mixed_series(
-        mixed_series(lots, first, p.kind, p.r1),
-        second,
-        p.r2,
-        p.units,
-    )
+    let lots = mixed_series(d, h.series, h.long, h.short);
+    let first = mixed_series(lots, p.first, p.kind, p.r1);
+    mixed_series(first, p.second, p.r2, p.units)
 }
 
 // A digest of all that a book holds, unused room included.
 fn digest(b: Book) -> u64 {
     let head = mixed(b.account as u64, b.identity as u64, b.day as u64);
     let mut d = mixed(head, b.held as u64, b.paired as u64);
-    let mut i: usize = 0;
-    while i < 128 {
-        d = mixed_rows(d, b.holdings[i], b.pairs[i]);
-        i += 1;
+    for (h, p) in b.holdings.iter().zip(b.pairs.iter()) {
+        d = mixed_rows(d, *h, *p);
     }
     d
 }
 
-// A number, and the digest of a book.
-fn put_outcome<W: Write>(out: &mut W, o: Outcome) -> io::Result<()> {
-    fields::put_number(out, o.number)?;
-    fields::put_amount(out, digest(o.book))
+// A number, and the digest of the book: a refusal leaves it as it was handed in.
+fn put_outcome<W: Write>(out: &mut W, b: Book, answer: Result<Book, Refusal>) -> io::Result<()> {
+    let (number, book) = match answer {
+        Ok(next) => (0, next),
+        Err(refusal) => (refusal.number(), b),
+    };
+    fields::put_number(out, number)?;
+    fields::put_amount(out, digest(book))
 }
 
 // Open and close of lots of a pair's first series, pair, split and turn.
@@ -196,14 +187,13 @@ fn answer_calls<W: Write>(
     day: u32,
 ) -> io::Result<()> {
     let b = sample(line);
-    let s = p.first;
-    let number = laws::unless(16, sound::is_sound(b), 0);
-    put_outcome(out, Outcome { number, book: b })?;
-    put_outcome(out, moves::open(b, s, Side::Long, lots))?;
-    put_outcome(out, moves::close(b, s, Side::Long, lots))?;
-    put_outcome(out, ties::pair(b, p))?;
-    put_outcome(out, ties::split(b, p))?;
-    put_outcome(out, moves::turn(b, day))
+    let sound = laws::ensure(sound::is_sound(b), Refusal::NotSound);
+    put_outcome(out, b, sound.map(|()| b))?;
+    put_outcome(out, b, moves::open(b, p.first, Side::Long, lots))?;
+    put_outcome(out, b, moves::close(b, p.first, Side::Long, lots))?;
+    put_outcome(out, b, ties::pair(b, p))?;
+    put_outcome(out, b, ties::split(b, p))?;
+    put_outcome(out, b, moves::turn(b, day))
 }
 
 pub fn answer<W: Write>(out: &mut W, line: &[u8]) -> io::Result<()> {

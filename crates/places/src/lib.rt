@@ -1,189 +1,114 @@
-// Holdings and pairs in their arrays: looked up, found, put in, taken out, set. Each function is there for holdings and for
-// pairs, and both are proved by the same laws (`lists`).
+// Rows in their arrays, over any kind of row: looked up, found, put in, taken out, set, kept.
 #![tactic(auto)]
 
-ghost use Rattle.std.specs.Prelude.{◌≡◌, [], ◌∷◌, ◌++◌, min, take, set};
+ghost use Rattle.std.specs.Prelude.{◌≡◌, [], ◌∷◌, ◌++◌, length, take, set};
 ghost use Rattle.lists.specs.Places.{insert_at, remove_at};
 ghost use Rattle.lists.specs.Slots.{slot_of};
-ghost use Rattle.rows.specs.Rows.{holding_rank, pair_rank, empty_holding, empty_pair};
+ghost use Rattle.lists.specs.Sorted.{look};
+ghost use Rattle.lists.specs.Kept.{kept_rows, kept_count};
 ghost use Rattle.rows.specs.Book.{holding_in, pair_in};
 
-use laws::Order;
-use lists::Slot;
-use rows::{Holding, Pair};
+use rows::{Holding, Pair, Row};
 use series::Series;
+use std::cmp::Ordering;
 
-// How many rows are live: no more than there is room for.
-fn live_rows(count: usize) -> usize
-    ensures { result ≡ min count 128 }
+// The live rows, which are the first ones.
+fn live_rows<R>(rows: &[R], live: usize) -> &[R]
+    ensures { result.now ≡ take live rows.now }
 {
-    if count < 128 { count } else { 128 }
+    &rows[..live.min(rows.len())]
+}
+
+// The row of the rank of `row` among the first `live` rows, or one of that rank of which nothing is left.
+pub fn row_in<R: Row>(rows: &[R], live: usize, row: R) -> R
+    ensures { result ≡ look R.rank (R.nothing row) (R.rank row) (take live rows.now) }
+{
+    live_rows(rows, live)
+        .iter()
+        .find(|r| r.compare(&row).is_eq())
+        .copied()
+        .unwrap_or(row.nothing())
 }
 
 // The holding of a series among the first `held` rows, or a row of no lots.
+#[tactic(auto, unfolding(rows::specs::Book::holding_in, rows::specs::Rows::holding_rank))]
 pub fn holding_in(rows: [Holding; 128], held: usize, s: Series) -> Holding
     ensures { result ≡ holding_in (take held rows) s }
 {
-    let n = live_rows(held);
-    let mut i: usize = 0;
-    while i < n {
-        let h = rows[i];
-        let t = h.series;
-        if rows::same_series(t, s) {
-            return h;
-        }
-        i += 1;
-    }
-    rows::new_holding(s)
+    row_in(&rows, held, rows::new_holding(s))
 }
 
 // The pair of the same kind, series, series and ratio as `p` among the first `paired` rows, or a row of no units.
+#[tactic(auto, unfolding(rows::specs::Book::pair_in))]
 pub fn pair_in(rows: [Pair; 128], paired: usize, p: Pair) -> Pair
     ensures { result ≡ pair_in (take paired rows) p }
 {
-    let n = live_rows(paired);
-    let a = p.first;
-    let b = p.second;
-    let mut i: usize = 0;
-    while i < n {
-        let q = rows[i];
-        if laws::is_same(rows::compare_pairs(q, p)) {
-            return q;
-        }
-        i += 1;
-    }
-    rows::new_pair(p.kind, a, b, p.r1, p.r2)
+    row_in(&rows, paired, p)
 }
 
-// Where a holding of the series of `k` stands among the first `held` rows, or before which row it would stand.
-pub fn find_holding(rows: [Holding; 128], held: usize, k: Holding) -> Slot
-    ensures { result ≡ slot_of holding_rank (holding_rank k) (take held rows) }
+// Where a row of the rank of `row` stands among the first `live` rows, or before which row it would stand.
+pub fn find<R: Row>(rows: &[R], live: usize, row: R) -> Result<usize, usize>
+    ensures { result ≡ slot_of R.rank (R.rank row) (take live rows.now) }
 {
-    let n = live_rows(held);
-    let mut i: usize = 0;
-    while i < n {
-        let h = rows[i];
-        let o = rows::compare_holdings(h, k);
-        match o {
-            Order::Less => {
-                i += 1;
-            }
-            Order::Same => {
-                return Slot::At(i);
-            }
-            Order::More => {
-                return Slot::Before(i);
-            }
+    let lives = live_rows(rows, live);
+    for (i, r) in lives.iter().enumerate() {
+        match r.compare(&row) {
+            Ordering::Less => {}
+            Ordering::Equal => return Ok(i),
+            Ordering::Greater => return Err(i),
         }
     }
-    Slot::Before(i)
-}
-
-// Where a pair of the same kind, series, series and ratio as `k` stands, or before which row it would stand.
-pub fn find_pair(rows: [Pair; 128], paired: usize, k: Pair) -> Slot
-    ensures { result ≡ slot_of pair_rank (pair_rank k) (take paired rows) }
-{
-    let n = live_rows(paired);
-    let mut i: usize = 0;
-    while i < n {
-        let p = rows[i];
-        let o = rows::compare_pairs(p, k);
-        match o {
-            Order::Less => {
-                i += 1;
-            }
-            Order::Same => {
-                return Slot::At(i);
-            }
-            Order::More => {
-                return Slot::Before(i);
-            }
-        }
-    }
-    Slot::Before(i)
+    Err(lives.len())
 }
 
 // The rows with one more before the row `at`, and the last row gone.
-pub fn insert_holding(rows: [Holding; 128], at: usize, h: Holding) -> [Holding; 128]
-    ensures { result ≡ take 128 (insert_at at h rows) }
+pub fn insert<R: Row>(rows: &mut [R], at: usize, row: R)
+    ensures { rows.new ≡ take (length rows.old) (insert_at at row rows.old) }
 {
-    let mut a = rows;
-    let mut carry = h;
-    let mut i = at;
-    while i < 128 {
-        let t = a[i];
-        a[i] = carry;
-        carry = t;
-        i += 1;
+    if at < rows.len() {
+        rows[at..].rotate_right(1);
+        rows[at] = row;
     }
-    a
-}
-
-pub fn insert_pair(rows: [Pair; 128], at: usize, p: Pair) -> [Pair; 128]
-    ensures { result ≡ take 128 (insert_at at p rows) }
-{
-    let mut a = rows;
-    let mut carry = p;
-    let mut i = at;
-    while i < 128 {
-        let t = a[i];
-        a[i] = carry;
-        carry = t;
-        i += 1;
-    }
-    a
 }
 
 // The rows without the row `at`, and an empty row behind them.
-pub fn remove_holding(rows: [Holding; 128], at: usize) -> [Holding; 128]
-    ensures { result ≡ take 128 (remove_at at (rows ++ empty_holding ∷ [])) }
+pub fn remove<R: Row>(rows: &mut [R], at: usize)
+    ensures { rows.new ≡ take (length rows.old) (remove_at at (rows.old ++ R.empty ∷ [])) }
 {
-    let mut a = rows;
-    let mut carry = rows::empty_holding();
-    let mut i: usize = 128;
-    while at < i {
-        i -= 1;
-        let t = a[i];
-        a[i] = carry;
-        carry = t;
+    if at < rows.len() {
+        rows[at] = R::empty();
+        rows[at..].rotate_left(1);
     }
-    a
-}
-
-pub fn remove_pair(rows: [Pair; 128], at: usize) -> [Pair; 128]
-    ensures { result ≡ take 128 (remove_at at (rows ++ empty_pair ∷ [])) }
-{
-    let mut a = rows;
-    let mut carry = rows::empty_pair();
-    let mut i: usize = 128;
-    while at < i {
-        i -= 1;
-        let t = a[i];
-        a[i] = carry;
-        carry = t;
-    }
-    a
 }
 
 // The rows with another for the row `at`.
-pub fn set_holding(rows: [Holding; 128], at: usize, h: Holding) -> [Holding; 128]
-    ensures { result ≡ set rows at h }
+pub fn set<R: Row>(rows: &mut [R], at: usize, row: R)
+    ensures { rows.new ≡ set rows.old at row }
 {
-    let mut a = rows;
-    if at < 128 {
-        a[at] = h;
-        return a;
+    if at < rows.len() {
+        rows[at] = row;
     }
-    a
 }
 
-pub fn set_pair(rows: [Pair; 128], at: usize, p: Pair) -> [Pair; 128]
-    ensures { result ≡ set rows at p }
+// The rows with the row in its place, or with its place given up where nothing is left of it; answers how many are live then.
+#[tactic(auto, unfolding(lists::specs::Kept::kept_rows, lists::specs::Kept::kept_count))]
+pub fn keep<R: Row>(rows: &mut [R], live: usize, row: R) -> usize
+    ensures { (result ≡ kept_count R.gone live rows.old row (slot_of R.rank (R.rank row) (take live rows.old)))
+        × (rows.new ≡ kept_rows R.gone live rows.old row R.empty (slot_of R.rank (R.rank row) (take live rows.old))) }
 {
-    let mut a = rows;
-    if at < 128 {
-        a[at] = p;
-        return a;
+    match find(rows, live, row) {
+        Ok(at) if row.is_gone() => {
+            remove(rows, at);
+            live - 1
+        }
+        Ok(at) => {
+            set(rows, at, row);
+            live
+        }
+        Err(at) if !row.is_gone() && live < rows.len() => {
+            insert(rows, at, row);
+            live + 1
+        }
+        Err(_) => live,
     }
-    a
 }

@@ -18,9 +18,7 @@ use Rattle.lines.specs.declared.Cell.{Cell}
 use Rattle.lines.specs.Pieces.{tab, lf}
 use Rattle.lines.specs.Fields.{nature_of}
 use Rattle.sheet_lines.specs.Lines.{cell, figure}
-use Rattle.price_lines.specs.declared.Head.{Head}
-use Rattle.price_lines.specs.declared.Figures.{Figures}
-use Rattle.price_lines.specs.Heads.{code_at, date_at, strike_at, price_at, parted_at, headed, head_right, head_at, figured, figures_at, follows, next_figures}
+use Rattle.price_lines.specs.Heads.{Head, Figures, code_at, date_at, strike_at, price_at, parted_at, headed, head_right, head_at, figured, figures_at, follows, next_figures}
 use Rattle.price_lines.specs.TestLaws.{inside_is, Heading, heading, Figured, figures, Following, following}
 use Rattle.price_lines.specs.SameLaws.{Agree, same_told, agree_part, agree_joined, same_field}
 

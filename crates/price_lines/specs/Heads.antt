@@ -1,7 +1,7 @@
 -- The short way through Q lines of options: facts of the code, not of the paper. What is asked of a line before a
 -- head is kept of it, and of the next line before it is taken by that head and its own figures. HeadLaws says what is
 -- known then.
-use Rattle.std.specs.Prelude.{Bool, true, false, List, ℕ, zero, suc, ◌+◌, ◌*◌, eqb, leb, ltb, get_or, length}
+use Rattle.std.specs.Prelude.{Bool, true, false, List, ℕ, zero, suc, ◌+◌, ◌*◌, eqb, leb, ltb, get_or, length, Option, None, Some}
 use Rattle.laws.specs.Truth.{pick, both, either, within}
 use Rattle.laws.specs.Text.{byte}
 use Rattle.laws.specs.Bytes.{same_bytes}
@@ -13,8 +13,20 @@ use Rattle.lines.specs.declared.Field.{Field}
 use Rattle.lines.specs.Pieces.{tab, lf}
 use Rattle.lines.specs.Fields.{no_code, field_at}
 use Rattle.sheet_lines.specs.Lines.{cell, figure}
-use Rattle.price_lines.specs.declared.Head.{Head}
-use Rattle.price_lines.specs.declared.Figures.{Figures}
+use Rattle.price_lines.specs.declared.Figures as taken
+
+-- Where it is right, the Q line of an option begins at `at`.
+pub record Head : Type 0 where
+  pub right : Bool
+  pub at : ℕ
+
+-- What stands behind the head of an option's Q line, where it is right.
+pub record Figures : Type 0 where
+  pub right : Bool
+  pub mark : ℕ
+  pub strike : ℕ
+  pub price : ℕ
+  pub stop : ℕ
 
 -- a cell of a number
 abbrev pub filled : ℕ → Cell
@@ -53,6 +65,11 @@ headed t at cells =
 abbrev pub no_head : Head
 no_head = record { right = false; at = 0 }
 
+-- what an answer says of a head
+abbrev pub head_of : Option ℕ → Head
+head_of (Some at) = record { right = true; at = at }
+head_of None = no_head
+
 unfoldable pub head_right : ℕ → List ℕ → ℕ → List Cell → Bool
 head_right letter t at cells = both (eqb letter (byte "Q")) (both (inside_at t at) (both (parted_at t at) (headed t at cells)))
 
@@ -76,6 +93,11 @@ figured t at =
 -- The figures of the line that begins at `at`: right where all this holds.
 abbrev pub no_figures : Figures
 no_figures = record { right = false; mark = 0; strike = 0; price = 0; stop = 0 }
+
+-- and of figures
+abbrev pub figures_of : Option taken.Figures → Figures
+figures_of (Some f) = record { right = true; mark = f.mark; strike = f.strike; price = f.price; stop = f.stop }
+figures_of None = no_figures
 
 unfoldable pub figures_at : List ℕ → ℕ → Figures
 figures_at t at =

@@ -2,12 +2,14 @@
 -- same there (document 01, "Text": "Fields parted by one tab").
 use Rattle.std.specs.Prelude.{◌≡◌, Bool, false, List, [], ◌∷◌, ℕ, zero, suc, ◌+◌, ◌-◌, ◌<◌, ◌≤◌, eqb, ltb, get_or, take, drop}
 use Rattle.std.proofs.Math.Path.{refl, sym}
-use Rattle.std.proofs.Common.{ap, ◌∙◌, arith, add-one, eqb-true, ltb-true, lt-ltb, length-take, length-drop, drop-cons, get_or-take, get_or-drop, ext_get_or}
+use Rattle.std.proofs.Common.{ap, ◌∙◌, arith, add-one, eqb-true, eq-eqb, ltb-true, lt-ltb, length-take, length-drop, drop-cons, get_or-take, get_or-drop, ext_get_or}
 use Rattle.std.proofs.Math.Bool.{true}
 use Rattle.std.proofs.Math.Decide.{dec_lt}
 use Rattle.std.proofs.Math.ListN.{length}
 use Rattle.laws.specs.Truth.{pick, both}
-use Rattle.laws.specs.TruthLaws.{by_test, both_true, clash}
+use Rattle.std.specs.Cmp.Lexicographic.{pointwise}
+use Rattle.laws.specs.TruthLaws.{by_test, both_true, both_hold, same_test, clash}
+use Rattle.laws.specs.ByteLaws.{are_same, same_self, as_pointwise}
 use Rattle.lines.specs.declared.Asked.{Asked}
 use Rattle.lines.specs.declared.Asked.TheVariants.{Mark}
 use Rattle.lines.specs.declared.Cell.{Cell}
@@ -55,6 +57,31 @@ same_more t a b n e is = is ∙ rw (e, add-one n)
 
 pub same_all : (t : List ℕ) (a b : ℕ) {n m : ℕ} {x : Bool} → x ≡ same_for t a b n → n ≡ m → x ≡ same_for t a b m
 same_all t a b e is = e ∙ ap (same_for t a b) is
+
+-- Slices are the same where their bytes agree.
+slice_at : (t : List ℕ) (a n k : ℕ) → k < n → get_or (take n (drop a t)) k 0 ≡ get_or t (a + k) 0
+slice_at t a n k lt = get_or-take n (drop a t) k 0 lt ∙ get_or-drop a t k 0
+
+agree_slices : (t : List ℕ) (a b n : ℕ) → Agree t a b n → a + n ≤ length t → b + n ≤ length t → take n (drop a t) ≡ take n (drop b t)
+agree_slices t a b n s ha hb =
+    let la : length (take n (drop a t)) ≡ n = simp (length-take, length-drop) (omega arith) in
+    let lb : length (take n (drop b t)) ≡ n = simp (length-take, length-drop) (omega arith) in
+    ext_get_or 0 (take n (drop a t)) (take n (drop b t)) (omega arith)
+    (λ k lt. slice_at t a n k (omega arith) ∙ s.each k (omega arith) ∙ sym (slice_at t b n k (omega arith)))
+
+told_by : (t : List ℕ) (a b n : ℕ) → ((k : ℕ) → k < n → get_or t (a + k) 0 ≡ get_or t (b + k) 0) → same_for t a b n ≡ true
+unfolding same_for
+told_by t a b zero h = refl
+told_by t a b (suc n) h = both_hold (told_by t a b n (λ k lt. h k (omega arith))) (eq-eqb _ _ (h n (omega arith)))
+
+slices_told : (t : List ℕ) (a b n : ℕ) → take n (drop a t) ≡ take n (drop b t) → same_for t a b n ≡ true
+slices_told t a b n e = told_by t a b n (λ k lt. sym (slice_at t a n k lt) ∙ ap (λ (l : List ℕ). get_or l k 0) e ∙ slice_at t b n k lt)
+
+pub same_slices : (t : List ℕ) (a b n : ℕ) {m k : ℕ} → m ≡ n → k ≡ n → a + n ≤ length t → b + n ≤ length t → pointwise eqb (take m (drop a t)) (take k (drop b t)) ≡ same_for t a b n
+same_slices t a b n is also ha hb =
+    rw (is, also)
+    (sym (as_pointwise _ _)
+    ∙ same_test _ _ (λ e. slices_told t a b n (are_same _ _ e)) (λ e. rw (agree_slices t a b n (same_told n e) ha hb) (same_self _)))
 
 pub agree_joined : {t : List ℕ} {a b : ℕ} → Agree t a b 8 → Agree t (a + 7) (b + 7) 8 → Agree t a b 15
 agree_joined {t} {a} {b} s u = record { each = λ k lt. go k lt (dec_lt k 8) }

@@ -11,8 +11,7 @@ use Rattle.lines.specs.declared.Cell.{Cell}
 use Rattle.lines.specs.declared.Field.{Field}
 use Rattle.lines.specs.Pieces.{tab, lf}
 use Rattle.lines.specs.Fields.{field_at}
-use Rattle.price_lines.specs.declared.Head.{Head}
-use Rattle.price_lines.specs.Heads.{strike_at, price_at, inside_at, parted_at, headed, no_head, head_right, head_at, same_for, figured, no_figures, figures_at, follows, next_figures}
+use Rattle.price_lines.specs.Heads.{Head, strike_at, price_at, inside_at, parted_at, headed, no_head, head_right, head_at, same_for, figured, no_figures, figures_at, follows, next_figures}
 
 -- Seventeen bytes stand from `at` on.
 module _ (t : List ℕ) (at : ℕ) where

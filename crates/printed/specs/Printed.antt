@@ -1,5 +1,7 @@
 -- Document 01, "Text": the text of a book; "Numbers a call may answer": what print answers, and what it leaves in the buffer.
-use Rattle.std.specs.Prelude.{List, [], ◌∷◌, ◌++◌, ℕ, leb, length, drop}
+use Rattle.std.specs.Prelude.{List, [], ◌∷◌, ◌++◌, ℕ, leb, length, drop, Result, Ok, Err}
+use Rattle.laws.specs.declared.Refusal.{Refusal}
+use Rattle.laws.specs.Refusals.{number_of}
 use Rattle.laws.specs.Truth.{pick}
 use Rattle.laws.specs.Text.{byte}
 use Rattle.laws.specs.Checks.{Check, ◌unless◌, first_failing, all_pass}
@@ -10,7 +12,6 @@ use Rattle.rows.specs.declared.Pair.{Pair}
 use Rattle.rows.specs.declared.Book.{Book}
 use Rattle.rows.specs.Book.{holdings_of, pairs_of}
 use Rattle.rules.specs.Rules.{sound_book}
-use Rattle.printed.specs.declared.Printed.{Printed}
 
 -- `A account identity day`
 unfoldable pub head_text : ℕ → ℕ → ℕ → List ℕ
@@ -37,6 +38,16 @@ text_of b = head_text b.account b.identity b.day ++ (texts_of holding_text (hold
 -- "16 comes first", "Print: 15"
 unfoldable pub print_checks : Book → List ℕ → List Check
 print_checks b out = 16 unless sound_book b ∷ 15 unless leb (length (text_of b)) (length out) ∷ []
+
+-- 0 and the length of the text, or the number of the first check that fails and 0
+pub record Printed : Type 0 where
+  pub number : ℕ
+  pub length : ℕ
+
+-- what an answer of the code stands for
+abbrev pub printed_in : Result ℕ Refusal → Printed
+printed_in (Ok n) = record { number = 0; length = n }
+printed_in (Err r) = record { number = number_of r; length = 0 }
 
 -- "Print writes the text, no byte after it, and returns its length"; on a refusal "zeros elsewhere"
 unfoldable pub print_answer : Book → List ℕ → Printed

@@ -1,9 +1,13 @@
 -- Laws of the printer: the rows' loops, and that the text of a sound book fits the buffer.
-use Rattle.std.specs.Prelude.{◌≡◌, Bool, List, [], ◌∷◌, ◌++◌, ℕ, ◌*◌, ◌≤◌, ◌<◌, eqb, length, get_or, take, drop}
+use Rattle.std.specs.Prelude.{◌≡◌, Bool, List, [], ◌∷◌, ◌++◌, ℕ, ◌*◌, ◌≤◌, ◌<◌, eqb, length, get_or, take, drop, Result, Ok, Err}
+use Rattle.std.specs.Result.{result_unwrap_or}
 use Rattle.std.proofs.Common.{sym, ◌∙◌, ap, append_assoc, append-nil, suc-mul, arith, length-append, length-take, take_at}
 use Rattle.std.proofs.Math.Bool.{true, false}
 use borrow.Author.Tests.{le-leb, lt-leb}
 use Rattle.std.proofs.Math.Dec.{leb}
+use Rattle.laws.specs.declared.Refusal.{Refusal}
+use Rattle.laws.specs.Refusals.{number_of}
+use Rattle.laws.specs.RefusalLaws.{refusal_positive, one_refusal}
 use Rattle.laws.specs.TruthLaws.{both_true, picked}
 use Rattle.laws.specs.Text.{byte}
 use Rattle.laws.specs.Search.{every_line}
@@ -26,7 +30,7 @@ use Rattle.put.specs.Put.{end_of}
 use Rattle.put.specs.PutLaws.{Put, put_then, laid_start, length_laid}
 use Rattle.put.specs.LineLaws.{field_fits, last_fits, fields_fit, line_fits, fixed_few}
 use Rattle.lines.specs.Texts.{tabbed, letters_of, series_fields}
-use Rattle.printed.specs.Printed.{head_text, holding_text, pair_text, texts_of, text_of, print_checks, print_answer, print_exit}
+use Rattle.printed.specs.Printed.{head_text, holding_text, pair_text, texts_of, text_of, print_checks, Printed, printed_in, print_answer, print_exit}
 
 -- The text of a row more.
 pub texts_last : {A : Type 0} (text : A → List ℕ) (l : List A) (x : A) → texts_of text (l ++ (x ∷ [])) ≡ texts_of text l ++ text x
@@ -151,3 +155,22 @@ straight_answer {out} {e} {n} b s room p =
     let is : n ≡ length (text_of b) = omega (arith, p.ends) in
     let t : leb (length (text_of b)) (length out) ≡ true = le-leb (length (text_of b)) (length out) h in
     (simp (s, t, is), simp (s, t) (p.holds ∙ laid_start out (text_of b) h))
+
+-- A sound book has at most as many rows as there is room for.
+pub held_few : (b : Book) → sound_book b ≡ true → b.held ≤ 128
+held_few b h = (sound_is b h).holdings_sound_lem.few
+
+pub paired_few : (b : Book) → sound_book b ≡ true → b.paired ≤ 128
+paired_few b h = (sound_is b h).pairs_sound_lem.few
+
+-- The length of an answer, or 0.
+pub printed_length : (x : Result ℕ Refusal) {n : ℕ} → n ≡ result_unwrap_or x 0 → n ≡ (printed_in x).length
+printed_length (Ok m) e = e
+printed_length (Err r) e = e
+
+-- Answers that stand for the same are the same.
+pub one_printed : (x y : Result ℕ Refusal) → printed_in x ≡ printed_in y → x ≡ y
+one_printed (Ok m) (Ok n) e = ap (λ (p : Printed). Ok p.length) e
+one_printed (Ok m) (Err s) e = let n : 0 ≡ number_of s = ap (λ (p : Printed). p.number) e in absurd (omega (arith, refusal_positive s))
+one_printed (Err r) (Ok n) e = let n : number_of r ≡ 0 = ap (λ (p : Printed). p.number) e in absurd (omega (arith, refusal_positive r))
+one_printed (Err r) (Err s) e = ap (λ (q : Refusal). Err q) (one_refusal r s (ap (λ (p : Printed). p.number) e))

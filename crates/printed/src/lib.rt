@@ -3,22 +3,16 @@
 
 ghost use Rattle.std.specs.Prelude.{◌≡◌, [], ◌∷◌, true, ◌+◌, ◌≤◌, ◌<◌, length, take};
 ghost use Rattle.laws.specs.Search.{every_line};
-ghost use Rattle.put.specs.Put.{laid, end_of};
+ghost use Rattle.put.specs.Put.{LaidAt};
 ghost use Rattle.digits.specs.Digits.{fixed, numerals};
 ghost use Rattle.lines.specs.Texts.{tabbed, letters_of, series_fields};
 ghost use Rattle.rules.specs.Rules.{good_holding, good_pair, sound_book};
-ghost use Rattle.printed.specs.Printed.{head_text, holding_text, pair_text, texts_of, text_of, print_answer, print_exit};
+ghost use Rattle.printed.specs.Printed.{head_text, holding_text, pair_text, texts_of, text_of, printed_in, print_answer, print_exit};
 ghost use Rattle.printed.specs.PlacedLaws.{Placed};
 
+use laws::Refusal;
 use rows::{Book, Holding, Pair};
 use series::Series;
-
-// 0 and the length of the text, or the number of the first check that fails and 0.
-#[derive(Clone, Copy)]
-pub struct Printed {
-    pub number: u8,
-    pub length: usize,
-}
 
 // A byte into room that is there: the callers know how far their texts reach.
 fn put_byte(dst: &mut [u8], at: usize, b: u8) -> usize
@@ -141,12 +135,10 @@ fn put_series(dst: &mut [u8], at: usize, s: Series) -> usize
     requires { at + 26 ≤ length dst.old }
     ensures { Placed dst.old at (tabbed (series_fields s)) dst.new result 26 }
 {
-    let code = s.code;
-    let nature = s.nature;
-    let a = put_letters(dst, at, code);
+    let a = put_letters(dst, at, s.code);
     let b = put_date(dst, a, s.date);
-    let c = put_mark(dst, b, series::letter_of(nature));
-    put_figure(dst, c, series::strike_of(nature))
+    let c = put_mark(dst, b, series::letter_of(s.nature));
+    put_figure(dst, c, series::strike_of(s.nature))
 }
 
 // The three lines.
@@ -156,7 +148,7 @@ fn put_head(dst: &mut [u8], account: u32, identity: u8, day: u32) -> usize
 {
     let a = put_byte(dst, 0, b'A');
     let b = put_byte(dst, a, b'\t');
-    let c = put::put_fixed(dst, b, 7, account as u64);
+    let c = put::put_fixed(dst, b, 7, u64::from(account));
     let d = put_mark(dst, c, identity);
     let e = put_date(dst, d, day);
     put_byte(dst, e, b'\n')
@@ -166,9 +158,8 @@ fn put_holding(dst: &mut [u8], at: usize, h: Holding) -> usize
     requires { (good_holding h ≡ true) × (at + 50 ≤ length dst.old) }
     ensures { Placed dst.old at (holding_text h) dst.new result 42 }
 {
-    let s = h.series;
     let a = put_byte(dst, at, b'H');
-    let b = put_series(dst, a, s);
+    let b = put_series(dst, a, h.series);
     let c = put_figure(dst, b, h.long);
     let d = put_figure(dst, c, h.short);
     put_byte(dst, d, b'\n')
@@ -178,12 +169,10 @@ fn put_pair(dst: &mut [u8], at: usize, p: Pair) -> usize
     requires { (good_pair p ≡ true) × (at + 98 ≤ length dst.old) }
     ensures { Placed dst.old at (pair_text p) dst.new result 71 }
 {
-    let first = p.first;
-    let second = p.second;
     let a = put_byte(dst, at, b'M');
     let b = put_figure(dst, a, p.kind);
-    let c = put_series(dst, b, first);
-    let d = put_series(dst, c, second);
+    let c = put_series(dst, b, p.first);
+    let d = put_series(dst, c, p.second);
     let e = put_figure(dst, d, p.r1);
     let f = put_figure(dst, e, p.r2);
     let g = put_figure(dst, f, p.units);
@@ -191,74 +180,54 @@ fn put_pair(dst: &mut [u8], at: usize, p: Pair) -> usize
 }
 
 // A line for each live row: 128 good holdings take at most 5,376 bytes, 128 good pairs 9,088.
-fn put_holdings(dst: &mut [u8], at: usize, rows: [Holding; 128], held: usize) -> usize
-    requires { (every_line good_holding (take held rows) ≡ true) × (held ≤ 128) × (at + 5426 ≤ length dst.old) }
-    ensures { Placed dst.old at (texts_of holding_text (take held rows)) dst.new result 5376 }
+fn put_holdings(dst: &mut [u8], at: usize, rows: &[Holding]) -> usize
+    requires { (every_line good_holding rows.now ≡ true) × (length rows.now ≤ 128) × (at + 5426 ≤ length dst.old) }
+    ensures { Placed dst.old at (texts_of holding_text rows.now) dst.new result 5376 }
 {
     let mut end = at;
-    let mut i: usize = 0;
-    while i < held {
-        let h = rows[i];
-        end = put_holding(dst, end, h);
-        i += 1;
+    for row in rows {
+        end = put_holding(dst, end, *row);
     }
     end
 }
 
-fn put_pairs(dst: &mut [u8], at: usize, rows: [Pair; 128], paired: usize) -> usize
-    requires { (every_line good_pair (take paired rows) ≡ true) × (paired ≤ 128) × (at + 9186 ≤ length dst.old) }
-    ensures { Placed dst.old at (texts_of pair_text (take paired rows)) dst.new result 9088 }
+fn put_pairs(dst: &mut [u8], at: usize, rows: &[Pair]) -> usize
+    requires { (every_line good_pair rows.now ≡ true) × (length rows.now ≤ 128) × (at + 9186 ≤ length dst.old) }
+    ensures { Placed dst.old at (texts_of pair_text rows.now) dst.new result 9088 }
 {
     let mut end = at;
-    let mut i: usize = 0;
-    while i < paired {
-        let p = rows[i];
-        end = put_pair(dst, end, p);
-        i += 1;
+    for row in rows {
+        end = put_pair(dst, end, *row);
     }
     end
 }
 
 // The whole text of a sound book, from the start of a buffer that holds any book's text.
+#[tactic(auto, using(crate::specs::PrintedLaws::held_few, crate::specs::PrintedLaws::paired_few))]
 fn put_book(dst: &mut [u8], b: Book) -> usize
     requires { (sound_book b ≡ true) × (16384 ≤ length dst.old) }
-    ensures { (result ≡ end_of dst.old 0 (text_of b)) × (dst.new ≡ laid dst.old 0 (text_of b)) }
+    ensures { LaidAt dst.old 0 (text_of b) result dst.new }
 {
-    let holdings = b.holdings;
-    let pairs = b.pairs;
     let head = put_head(dst, b.account, b.identity, b.day);
-    let held = put_holdings(dst, head, holdings, b.held);
-    put_pairs(dst, held, pairs, b.paired)
+    let held = put_holdings(dst, head, &b.holdings[..b.held]);
+    put_pairs(dst, held, &b.pairs[..b.paired])
 }
 
 // The text of a sound book that fits the buffer, and its length. A buffer that might be too short gets a text composed apart.
-pub fn print(b: Book, out: &mut [u8]) -> Printed
-    ensures { (result ≡ print_answer b out.old) × (out.new ≡ print_exit b out.old) }
+pub fn print(b: Book, out: &mut [u8]) -> Result<usize, Refusal>
+    ensures { (printed_in result ≡ print_answer b out.old) × (out.new ≡ print_exit b out.old) }
 {
     if !sound::is_sound(b) {
-        return Printed {
-            number: 16,
-            length: 0,
-        };
+        return Err(Refusal::NotSound);
     }
     if 16384 <= out.len() {
-        let whole = put_book(out, b);
-        return Printed {
-            number: 0,
-            length: whole,
-        };
+        return Ok(put_book(out, b));
     }
     let mut buf = [0u8; 16384];
     let n = put_book(&mut buf, b);
     if out.len() < n {
-        return Printed {
-            number: 15,
-            length: 0,
-        };
+        return Err(Refusal::BufferShort);
     }
     put::put_bytes(out, 0, &buf[..n]);
-    Printed {
-        number: 0,
-        length: n,
-    }
+    Ok(n)
 }

@@ -1,11 +1,12 @@
 -- Laws of laying texts over a buffer: one behind the other, forward by bytes, and digits from the last to the first.
-use Rattle.std.specs.Prelude.{◌≡◌, refl, List, [], ◌∷◌, ◌++◌, ℕ, zero, suc, ◌+◌, ◌-◌, ◌/◌, ◌≤◌, ◌<◌, min, length, get_or, set, drop}
+use Rattle.std.specs.Prelude.{◌≡◌, refl, List, [], ◌∷◌, ◌++◌, ℕ, zero, suc, ◌+◌, ◌-◌, ◌/◌, ◌≤◌, ◌<◌, min, length, get_or, set, take, drop}
 use Rattle.std.proofs.Math.Path.{sym}
-use Rattle.std.proofs.Common.{◌∙◌, ap, add-zero, add-one, length-append, drop_of_length-le, drop-cons}
+use Rattle.std.proofs.Common.{◌∙◌, ap, add-zero, add-one, length-append, drop_of_length-le, drop-cons, take_all}
 use Rattle.std.proofs.Math.Nat.{add-suc}
 use Rattle.std.proofs.Math.Decide.{dec_lt}
 use native.Mathlib.Omega.{arith}
-use Rattle.std.proofs.Math.ListN.{length-set}
+use Rattle.std.proofs.Math.ListN.{length-set, length-drop}
+use borrow.Rule.Slice.PartMut.{put_mid}
 use Rattle.std.proofs.Math.Seq.{set_out}
 use Rattle.std.proofs.lemmas.List.{set_comm}
 use Rattle.digits.specs.Digits.{digit, fixed_before, fixed, width_of, numerals}
@@ -112,6 +113,44 @@ module _ {d p e : List ℕ} {at i : ℕ} (g : Laying d at p e i) where
   unfolding laid end_of
   lays_out h = record { ends = omega (arith, g.low, g.fits); holds = rw (drop_of_length-le p h) at g.goes }
 
+-- The same by a copy: what stands before the place, as much of p as there is room for, and what stands behind it.
+laid_over : (d p : List ℕ) → laid d 0 p ≡ take (length d) p ++ drop (length p) d
+unfolding laid
+laid_over [] [] = refl
+laid_over (x ∷ d) [] = refl
+laid_over [] (b ∷ p) = laid_behind [] 0 (b ∷ p) (omega arith)
+laid_over (x ∷ d) (b ∷ p) = laid_in b d 0 p ∙ ap (λ (l : List ℕ). b ∷ l) (laid_over d p)
+
+laid_from : (d : List ℕ) (at : ℕ) (p : List ℕ) → at ≤ length d → laid d at p ≡ take at d ++ laid (drop at d) 0 p
+unfolding laid
+laid_from d zero p h = refl
+laid_from [] (suc at) p h = absurd (omega arith)
+laid_from (x ∷ d) (suc at) p h = laid_in x d at p ∙ ap (λ (l : List ℕ). x ∷ l) (laid_from d at p (omega arith))
+
+pub copied : (d : List ℕ) (at : ℕ) (p q : List ℕ) {start count k : ℕ} → start ≡ min at (length d) → count ≡ min (length p) (length d - start) → k ≡ count → q ≡ take count p → Put d at p (put_mid start k d q) (start + count)
+unfolding end_of
+copied d at p q {start} {count} {k} s c e h =
+    let cut : laid d start p ≡ laid d at p = laid_start_at (dec_lt (length d) at) in
+    record { ends = omega arith; holds = rw (h, e) (part (dec_lt (length p) (length d - start)) ∙ cut) }
+  where
+    laid_start_at : Dec (length d < at) → laid d start p ≡ laid d at p
+    laid_start_at (yes g) = laid_behind d start p (omega arith) ∙ sym (laid_behind d at p (omega arith))
+    laid_start_at (no g) = let z : start ≡ at = omega arith in rw z
+
+    whole : laid d start p ≡ take start d ++ (take (length d - start) p ++ drop (length p) (drop start d))
+    whole = laid_from d start p (omega arith) ∙ ap (λ (l : List ℕ). take start d ++ l) (laid_over (drop start d) p ∙ rw (length-drop start d))
+
+    part : Dec (length p < length d - start) → take start d ++ (take count p ++ drop count (drop start d)) ≡ laid d start p
+    part (yes g) =
+        let z : count ≡ length p = omega arith in
+        sym (whole ∙ rw (z, take_all (length p) p (omega arith), take_all (length d - start) p (omega arith)))
+    part (no g) =
+        let z : count ≡ length d - start = omega arith in
+        let l = length-drop start d in
+        let none : drop (length p) (drop start d) ≡ [] = drop_of_length-le (drop start d) (omega arith) in
+        let end : drop (length d - start) (drop start d) ≡ [] = drop_of_length-le (drop start d) (omega arith) in
+        sym (whole ∙ rw (z, none, end))
+
 -- Digits: laying the last w digits of n over d from at on, the last first, has come to digit i, what is left of n is m, and e is the buffer.
 pub record Falling (d : List ℕ) (at w n : ℕ) (e : List ℕ) (i m : ℕ) : Type 0 where
   pub high : i ≤ w
@@ -153,6 +192,10 @@ module _ {d e : List ℕ} {at w n i m : ℕ} (g : Falling d at w n e i m) where
   pub falls_cut : i ≤ 0 → at < length d → length e - at < w → Put d at (fixed w n) e (length e)
   unfolding end_of
   falls_cut h k l = record { ends = rw (length_fixed w n) (omega (arith, g.same)); holds = falls_out h }
+
+  pub falls_end : {r f : ℕ} → i ≤ 0 → f ≡ w → r ≡ min (length e) (at + f) → Put d at (fixed w n) e r
+  unfolding end_of
+  falls_end h q k = record { ends = rw (length_fixed w n) (omega (arith, g.same)); holds = falls_out h }
 
   pub falls_fit : i ≤ 0 → at < length d → w ≤ length e - at → Put d at (fixed w n) e (at + w)
   unfolding end_of

@@ -5,7 +5,7 @@
 ghost use Rattle.std.specs.Prelude.{◌≡◌, [], ◌∷◌};
 ghost use Rattle.digits.specs.Digits.{fixed, numerals};
 ghost use Rattle.lines.specs.Texts.{tabbed};
-ghost use Rattle.put.specs.Put.{laid, end_of};
+ghost use Rattle.put.specs.Put.{LaidAt};
 ghost use Rattle.put.specs.Output.{refusal_text, output_of};
 
 // A line: its bytes, then zeros, and how many they are.
@@ -17,7 +17,7 @@ pub struct Output {
 
 // One byte.
 pub fn put_byte(dst: &mut [u8], at: usize, b: u8) -> usize
-    ensures { (result ≡ end_of dst.old at (b ∷ [])) × (dst.new ≡ laid dst.old at (b ∷ [])) }
+    ensures { LaidAt dst.old at (b ∷ []) result dst.new }
 {
     if dst.len() <= at {
         return dst.len();
@@ -28,72 +28,58 @@ pub fn put_byte(dst: &mut [u8], at: usize, b: u8) -> usize
 
 // A text.
 pub fn put_bytes(dst: &mut [u8], at: usize, p: &[u8]) -> usize
-    ensures { (result ≡ end_of dst.old at p.now) × (dst.new ≡ laid dst.old at p.now) }
+    ensures { LaidAt dst.old at p.now result dst.new }
 {
-    if dst.len() <= at {
-        return dst.len();
-    }
-    let room = dst.len() - at;
-    let mut i: usize = 0;
-    while i < p.len() {
-        if room <= i {
-            return dst.len();
-        }
-        dst[at + i] = p[i];
-        i += 1;
-    }
-    at + i
+    let start = at.min(dst.len());
+    let count = p.len().min(dst.len() - start);
+    dst[start..start + count].copy_from_slice(&p[..count]);
+    start + count
 }
 
 // The last digits of n, so many of them.
 pub fn put_fixed(dst: &mut [u8], at: usize, width: u8, n: u64) -> usize
-    ensures { (result ≡ end_of dst.old at (fixed width n)) × (dst.new ≡ laid dst.old at (fixed width n)) }
+    ensures { LaidAt dst.old at (fixed width n) result dst.new }
 {
     if dst.len() <= at {
         return dst.len();
     }
-    let mut i = width as usize;
     let mut m = n;
-    while 0 < i {
-        i -= 1;
+    for i in (0..usize::from(width)).rev() {
         put_byte(dst, at + i, b'0' + (m % 10) as u8);
-        m = m / 10;
+        m /= 10;
     }
-    if dst.len() - at < width as usize {
-        return dst.len();
-    }
-    at + width as usize
+    dst.len().min(at + usize::from(width))
 }
 
 // The digits of n, as many as needed.
 pub fn put_number(dst: &mut [u8], at: usize, n: u64) -> usize
-    ensures { (result ≡ end_of dst.old at (numerals n)) × (dst.new ≡ laid dst.old at (numerals n)) }
+    ensures { LaidAt dst.old at (numerals n) result dst.new }
 {
     put_fixed(dst, at, digits::width_of(n) as u8, n)
 }
 
 // Fields, each behind a tab: a number, and so many digits of one.
 pub fn put_figure(dst: &mut [u8], at: usize, n: u64) -> usize
-    ensures { (result ≡ end_of dst.old at (tabbed (numerals n ∷ []))) × (dst.new ≡ laid dst.old at (tabbed (numerals n ∷ []))) }
+    ensures { LaidAt dst.old at (tabbed (numerals n ∷ [])) result dst.new }
 {
     let a = put_byte(dst, at, b'\t');
     put_number(dst, a, n)
 }
 
 pub fn put_digits(dst: &mut [u8], at: usize, width: u8, n: u32) -> usize
-    ensures { (result ≡ end_of dst.old at (tabbed (fixed width n ∷ []))) × (dst.new ≡ laid dst.old at (tabbed (fixed width n ∷ []))) }
+    ensures { LaidAt dst.old at (tabbed (fixed width n ∷ [])) result dst.new }
 {
     let a = put_byte(dst, at, b'\t');
-    put_fixed(dst, a, width, n as u64)
+    put_fixed(dst, a, width, u64::from(n))
 }
 
 // A refusal: `X number line`.
 pub fn put_refusal(dst: &mut [u8], at: usize, number: u8, line: u32) -> usize
-    ensures { (result ≡ end_of dst.old at (refusal_text number line)) × (dst.new ≡ laid dst.old at (refusal_text number line)) }
+    ensures { LaidAt dst.old at (refusal_text number line) result dst.new }
 {
     let a = put_byte(dst, at, b'X');
-    let b = put_figure(dst, a, number as u64);
-    let c = put_figure(dst, b, line as u64);
+    let b = put_figure(dst, a, u64::from(number));
+    let c = put_figure(dst, b, u64::from(line));
     put_byte(dst, c, b'\n')
 }
 

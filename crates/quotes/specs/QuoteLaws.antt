@@ -1,5 +1,5 @@
 -- Laws of quotes: a quote depends on four answers of the sheet, and of a series on the sheet the lot and the terms are taken.
-use Rattle.std.specs.Prelude.{◌≡◌, refl, Bool, true, false, List, ℕ, eqb, leb, get_or}
+use Rattle.std.specs.Prelude.{◌≡◌, refl, Bool, true, false, List, ℕ, eqb, leb, get_or, Option, is_some, unwrap_or}
 use Rattle.std.proofs.Common.{sym, ◌∙◌, arith, lit≤}
 use Rattle.laws.specs.Truth.{pick, both}
 use Rattle.laws.specs.TruthLaws.{clash, both_true, both_hold, both_end, picked}
@@ -30,7 +30,6 @@ use Rattle.amounts.specs.Lots.{refused_lot, fixed_future, stock_future, index_op
 use Rattle.amounts.specs.Limits.{lot_limit, lot_fits, terms_fit}
 use Rattle.units.specs.LimitLaws.{lot_is}
 use Rattle.units.specs.UnitLaws.{fixed_lot, stock_future_lot, index_lot, stock_lot, index_terms_taken, stock_terms_taken}
-use Rattle.sheets.specs.declared.Found.{Found}
 use Rattle.sheets.specs.View.{View, saying}
 use Rattle.quotes.specs.declared.Quote.{Quote}
 use Rattle.quotes.specs.Quotes.{by_class, clearing_stands, price_stands, on_sheet, own_line, lot_lines, parent_lines, clearing_said, price_said, lot_as, no_terms, terms_as, quote_as, quote_of}
@@ -118,9 +117,9 @@ future_most_lot v s =
     (λ e. absurd (clash e refl))
 
 -- An amount that is said passes its test, and so does 0.
-said_fits : (test : ℕ → Bool) (f : Found) → test 0 ≡ true → test (pick (both f.there (test f.amount)) f.amount 0) ≡ true
+said_fits : (test : ℕ → Bool) (f : Option ℕ) → test 0 ≡ true → test (pick (both (is_some f) (test (unwrap_or f 0))) (unwrap_or f 0) 0) ≡ true
 said_fits test f none =
-    picked (λ (n : ℕ). test n ≡ true) (both f.there (test f.amount)) f.amount 0 (λ e. (both_true f.there _ e).1) (λ _. none)
+    picked (λ (n : ℕ). test n ≡ true) (both (is_some f) (test (unwrap_or f 0))) (unwrap_or f 0) 0 (λ e. (both_true (is_some f) _ e).1) (λ _. none)
 
 clearing_fits_lem : (v : View) (code : List ℕ) → clearing_fits (clearing_said v code) ≡ true
 unfolding clearing_said clearing_fits

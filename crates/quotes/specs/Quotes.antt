@@ -1,6 +1,6 @@
 -- Document 01, "Needed" and "Rates and amounts": of one series, the lines of a sheet that its margin needs, the margin of one lot, and
 -- what its pairs use beside their lots.
-use Rattle.std.specs.Prelude.{Bool, false, List, [], ◌∷◌, ℕ, leb}
+use Rattle.std.specs.Prelude.{Bool, false, List, [], ◌∷◌, ℕ, leb, Option, is_some, unwrap_or}
 use Rattle.laws.specs.Truth.{pick, both}
 use Rattle.laws.specs.Search.{every_line}
 use Rattle.codes.specs.declared.Class.{Class}
@@ -15,7 +15,6 @@ use Rattle.amounts.specs.declared.Lot.{Lot}
 use Rattle.amounts.specs.declared.Terms.{Terms}
 use Rattle.amounts.specs.Lines.{index_fits, stock_fits}
 use Rattle.amounts.specs.Lots.{future_lot, refused_lot, fixed_future, stock_future, index_option, stock_option, index_terms, stock_terms}
-use Rattle.sheets.specs.declared.Found.{Found}
 use Rattle.quotes.specs.declared.Quote.{Quote}
 use Rattle.sheets.specs.View.{View}
 
@@ -36,11 +35,11 @@ pub data SheetLine : Type 0 where
   no_line : SheetLine
 
 -- an amount and a price that a line may hold
-abbrev pub clearing_stands : Found → Bool
-clearing_stands f = both f.there (clearing_fits f.amount)
+abbrev pub clearing_stands : Option ℕ → Bool
+clearing_stands f = both (is_some f) (clearing_fits (unwrap_or f 0))
 
-abbrev pub price_stands : Found → Bool
-price_stands f = both f.there (leb f.amount 100000000)
+abbrev pub price_stands : Option ℕ → Bool
+price_stands f = both (is_some f) (leb (unwrap_or f 0) 100000000)
 
 -- a line is on the sheet where the sheet says something that such a line may hold; of a line that is not there it says zeros, which
 -- none may hold
@@ -65,10 +64,10 @@ parent_lines p = by_class p.class [] [] (f_line p.parent ∷ []) [] []
 
 -- the amount of an F line and the price of a Q line, 0 where it is not on the sheet
 unfoldable pub clearing_said : View → List ℕ → ℕ
-clearing_said v code = pick (clearing_stands (v.clearing code)) (v.clearing code).amount 0
+clearing_said v code = pick (clearing_stands (v.clearing code)) (unwrap_or (v.clearing code) 0) 0
 
 unfoldable pub price_said : View → Series → ℕ
-price_said v s = pick (price_stands (v.price s)) (v.price s).amount 0
+price_said v s = pick (price_stands (v.price s)) (unwrap_or (v.price s) 0) 0
 
 -- one lot of a future, or one short lot of an option
 unfoldable pub lot_as : View → Product → Series → Lot

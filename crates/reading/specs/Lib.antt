@@ -1,4 +1,5 @@
 pub mod Reading
+pub mod AnswerLaws
 pub mod Facts
 pub mod Next
 pub mod NextLaws

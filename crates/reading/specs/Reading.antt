@@ -1,7 +1,9 @@
 -- Document 01, "Text" and "Numbers a call may answer": a book is read line by line; "The first bad line is the one
 -- reported".
-use Rattle.std.specs.Prelude.{Bool, true, List, [], ◌∷◌, ◌++◌, ℕ, suc, leb, ltb, eqb, length}
+use Rattle.std.specs.Prelude.{Bool, true, List, [], ◌∷◌, ◌++◌, ℕ, suc, leb, ltb, eqb, length, Result, Ok, Err}
 use Rattle.laws.specs.Truth.{pick, both}
+use Rattle.laws.specs.declared.Fault.{Fault}
+use Rattle.laws.specs.Refusals.{number_of}
 use Rattle.laws.specs.Checks.{Check, first_failing, all_pass}
 use Rattle.lists.specs.Sorted.{ascending}
 use Rattle.rows.specs.declared.Book.{Book}
@@ -11,7 +13,6 @@ use Rattle.rules.specs.Lots.{first_leg, second_leg}
 use Rattle.calls.specs.Calls.{leg_free}
 use Rattle.lines.specs.Pieces.{lf, Pieces, one, more, split_on}
 use Rattle.book_lines.specs.Lines.{Line, head, holding, pair, formless, book_line, checks_by}
-use Rattle.reading.specs.declared.Answer.{Answer}
 
 -- What the book that the lines before it say has to tell a line: a row stands in its order behind those before it, a
 -- holding before any pair
@@ -46,6 +47,12 @@ with_line b (head account identity day) = empty_book account identity day
 with_line b (holding h) = with_holdings b (holdings_of b ++ (h ∷ []))
 with_line b (pair p) = with_pairs b (pairs_of b ++ (p ∷ []))
 
+-- 0 and the book, or the number of the first check that fails, its line, and the empty book
+pub record Answer : Type 0 where
+  pub number : ℕ
+  pub line : ℕ
+  pub book : Book
+
 -- "A refusal returns its number, the line"; "a refused read gives the empty book of account 0, code 0, day 20000101"
 unfoldable pub refused_at : ℕ → ℕ → Answer
 refused_at number line = record { number = number; line = line; book = no_book }
@@ -64,3 +71,8 @@ read_lines n b (more line ls) =
 unfoldable pub read_book : List ℕ → Answer
 read_book text =
     pick (leb (length text) 16384) (pick (eqb (length text) 0) (refused_at 1 0) (read_lines 0 no_book (split_on lf text))) (refused_at 2 0)
+
+-- the answer that a read gives
+abbrev pub answer_in : Result Book Fault → Answer
+answer_in (Ok b) = read_as b
+answer_in (Err f) = refused_at (number_of f.refusal) f.line

@@ -26,9 +26,8 @@ use Rattle.book_lines.specs.Facts.{item, holding_of, pair_of, line_of, number_be
 use Rattle.book_lines.specs.LetterLaws.{says_head, says_holding, says_pair}
 use Rattle.book_lines.specs.FormLaws.{line_account}
 use Rattle.book_lines.specs.TurnLaws.{Formless, Says}
-use Rattle.reading.specs.declared.Answer.{Answer}
 use Rattle.reading.specs.declared.Legs.{Legs}
-use Rattle.reading.specs.Reading.{line_checks, with_line, refused_at, read_as, read_lines, read_book}
+use Rattle.reading.specs.Reading.{Answer, line_checks, with_line, refused_at, read_as, read_lines, read_book}
 use Rattle.reading.specs.Facts.{first_slot, second_slot, legs_at, less_legs}
 use Rattle.reading.specs.Next.{NextHolding, NextPair}
 use Rattle.reading.specs.PassLaws.{line_numbered, head_passes, head_first, holding_passes, pair_passes}

@@ -2,42 +2,22 @@
 #![tactic(auto)]
 
 ghost use Rattle.std.specs.Prelude.{◌≡◌, ◌+◌, ◌-◌, ◌*◌, ◌≤◌, ◌<◌, leb, get_or, length, set};
+ghost use Rattle.laws.specs.Refusals.{number_of};
 ghost use Rattle.series.specs.Key.{high_key, nature_key};
 ghost use Rattle.rows.specs.Book.{no_book};
 ghost use Rattle.rules.specs.Facts.{Counts};
 ghost use Rattle.lines.specs.Pieces.{lf, split_on};
-ghost use Rattle.reading.specs.Reading.{refused_at, read_as, read_lines, read_book};
+ghost use Rattle.reading.specs.Reading.{answer_in, refused_at, read_lines, read_book};
 ghost use Rattle.reading.specs.Facts.{slot, slot_at, legs_at, less_legs};
 
+use laws::{Fault, Refusal};
 use rows::{Book, Holding, Pair};
 use series::{Series, Side};
 
-// 0 and the book, or the number of the first check that fails, its line, and the empty book.
-#[derive(Clone, Copy)]
-pub struct Answer {
-    pub number: u8,
-    pub line: u32,
-    pub book: Book,
-}
-
-fn refused(number: u8, line: u32) -> Answer
-    ensures { result ≡ refused_at number line }
+fn refused(refusal: Refusal, line: u32) -> Result<Book, Fault>
+    ensures { answer_in result ≡ refused_at (number_of refusal) line }
 {
-    Answer {
-        number,
-        line,
-        book: rows::empty_book(0, b'0', 20000101),
-    }
-}
-
-fn accept(book: Book) -> Answer
-    ensures { result ≡ read_as book }
-{
-    Answer {
-        number: 0,
-        line: 0,
-        book,
-    }
+    Err(Fault { refusal, line })
 }
 
 // Where the lots of a line's two legs stand, and whether they are free.
@@ -49,6 +29,7 @@ struct Legs {
 }
 
 // Where the free lots of a row and side stand.
+#[tactic(auto, unfolding(crate::specs::Facts::slot))]
 fn slot_in(row: usize, side: Side) -> usize
     requires { row < 128 }
     ensures { result ≡ slot row side }
@@ -60,7 +41,8 @@ fn slot_in(row: usize, side: Side) -> usize
 }
 
 // Where the free lots of a series and side stand; 256 where it is not held.
-fn slot_of<'a>(highs: &'a [u64], lows: &'a [u64], held: usize, s: Series, side: Side) -> usize
+#[tactic(auto, unfolding(crate::specs::Facts::slot_at))]
+fn slot_of(highs: &[u64], lows: &[u64], held: usize, s: Series, side: Side) -> usize
     requires { held ≤ 128 }
     ensures { result ≡ slot_at highs.now lows.now held s side }
 {
@@ -75,25 +57,19 @@ fn slot_of<'a>(highs: &'a [u64], lows: &'a [u64], held: usize, s: Series, side: 
 fn lots_at(free: &[u32], x: usize) -> u32
     ensures { result ≡ get_or free.now x 0 }
 {
-    if x < free.len() { free[x] } else { 0 }
+    free.get(x).copied().unwrap_or(0)
 }
 
 // Whether a leg of r lots a unit finds its lots at x. In 64 bits the product of any two counts fits.
 fn leg_free(free: &[u32], x: usize, r: u32, units: u32) -> bool
     ensures { result ≡ leb (r * units) (get_or free.now x 0) }
 {
-    r as u64 * units as u64 <= lots_at(free, x) as u64
+    u64::from(r) * u64::from(units) <= u64::from(lots_at(free, x))
 }
 
 // What is found for the legs of a line: of an M line, which says p, their slots and whether their lots are free.
-fn legs_at<'a>(
-    highs: &'a [u64],
-    lows: &'a [u64],
-    free: &[u32],
-    held: usize,
-    letter: u8,
-    p: Pair,
-) -> Legs
+#[tactic(auto, unfolding(crate::specs::Facts::legs_at, crate::specs::Facts::legs_found))]
+fn legs_at(highs: &[u64], lows: &[u64], free: &[u32], held: usize, letter: u8, p: Pair) -> Legs
     requires { held ≤ 128 }
     ensures { result ≡ legs_at highs.now lows.now free.now held letter p }
 {
@@ -104,17 +80,18 @@ fn legs_at<'a>(
             free: true,
         };
     }
-    let a = p.first;
-    let b = p.second;
-    let first = slot_of(highs, lows, held, a, pairing::first_side(p.kind, b));
-    let second = slot_of(highs, lows, held, b, pairing::second_side(p.kind));
+    let first = slot_of(
+        highs,
+        lows,
+        held,
+        p.first,
+        pairing::first_side(p.kind, p.second),
+    );
+    let second = slot_of(highs, lows, held, p.second, pairing::second_side(p.kind));
     Legs {
         first,
         second,
-        free: laws::and(
-            leg_free(free, first, p.r1, p.units),
-            leg_free(free, second, p.r2, p.units),
-        ),
+        free: leg_free(free, first, p.r1, p.units) && leg_free(free, second, p.r2, p.units),
     }
 }
 
@@ -122,15 +99,9 @@ fn legs_at<'a>(
 fn take_lots(free: &mut [u32], x: usize, lots: u32)
     ensures { free.new ≡ set free.old x (get_or free.old x 0 - lots) }
 {
-    if free.len() <= x {
-        return;
+    if x < free.len() {
+        free[x] = free[x].saturating_sub(lots);
     }
-    let has = free[x];
-    if has < lots {
-        free[x] = 0;
-        return;
-    }
-    free[x] = has - lots;
 }
 
 // Each leg of a pair takes its lots from its slot.
@@ -147,8 +118,7 @@ fn enter(highs: &mut [u64], lows: &mut [u64], free: &mut [u32], row: usize, h: H
     requires { (row < 128) × ((row < length highs.old) × ((row < length lows.old) × (2 * row + 1 < length free.old))) }
     ensures { (highs.new ≡ set highs.old row (high_key h.series)) × ((lows.new ≡ set lows.old row (nature_key h.series.nature)) × (free.new ≡ set (set free.old (2 * row) h.long) (2 * row + 1) h.short)) }
 {
-    let s = h.series;
-    let k = series::halves_of(s);
+    let k = series::halves_of(h.series);
     highs[row] = k.high;
     lows[row] = k.low;
     free[2 * row] = h.long;
@@ -156,9 +126,9 @@ fn enter(highs: &mut [u64], lows: &mut [u64], free: &mut [u32], row: usize, h: H
 }
 
 // Line after line. With the book go the keys and free lots of its rows, and the last of them.
-fn read_lines(t: &[u8]) -> Answer
+fn read_lines(t: &[u8]) -> Result<Book, Fault>
     requires { length t.now ≤ 16384 }
-    ensures { result ≡ read_lines 0 no_book (split_on lf t.now) }
+    ensures { answer_in result ≡ read_lines 0 no_book (split_on lf t.now) }
 {
     let parts = book_lines::parts();
     let none = book_lines::no_item();
@@ -173,12 +143,12 @@ fn read_lines(t: &[u8]) -> Answer
     let mut at: usize = 0;
     'lines: loop {
         if at == t.len() {
-            break 'lines accept(book);
+            break 'lines Ok(book);
         }
         line += 1;
         let mut stop = lines::stop_of(t, at);
         if stop == t.len() {
-            break 'lines refused(1, line);
+            break 'lines refused(Refusal::Malformed, line);
         }
         let letter = book_lines::letter_of(&t[at..stop]);
         let form = book_lines::form_of(letter);
@@ -186,14 +156,14 @@ fn read_lines(t: &[u8]) -> Answer
         'fields: while t[stop] == b'\t' {
             let item = book_lines::item_behind(parts[form + k], t, stop);
             if !item.right {
-                break 'lines refused(1, line);
+                break 'lines refused(Refusal::Malformed, line);
             }
             items[k] = item;
             k += 1;
             stop = item.stop;
         }
         if k != book_lines::parts_of(letter) {
-            break 'lines refused(1, line);
+            break 'lines refused(Refusal::Malformed, line);
         }
         at = stop + 1;
         let n = book.held;
@@ -201,23 +171,14 @@ fn read_lines(t: &[u8]) -> Answer
         let h = book_lines::holding_of(items);
         let p = book_lines::pair_of(items);
         let legs = legs_at(&highs, &lows, &free, n, letter, p);
-        let number = book_lines::line_number(
-            letter,
-            items,
-            line == 1,
-            last,
-            n,
-            newest,
-            m,
-            legs.free,
-        );
-        if number != 0 {
-            break 'lines refused(number, line);
+        let first = line == 1;
+        let checked = book_lines::check_line(letter, items, first, last, n, newest, m, legs.free);
+        if let Err(refusal) = checked {
+            break 'lines refused(refusal, line);
         }
         if letter == b'A' {
-            let identity = items[1].number;
             book.account = items[0].number;
-            book.identity = (identity % 256) as u8;
+            book.identity = (items[1].number % 256) as u8;
             book.day = items[2].number;
             continue 'lines;
         }
@@ -236,14 +197,14 @@ fn read_lines(t: &[u8]) -> Answer
 }
 
 // Reads a book: any bytes.
-pub fn read(t: &[u8]) -> Answer
-    ensures { result ≡ read_book t.now }
+pub fn read(t: &[u8]) -> Result<Book, Fault>
+    ensures { answer_in result ≡ read_book t.now }
 {
     if 16384 < t.len() {
-        return refused(2, 0);
+        return refused(Refusal::OutOfRange, 0);
     }
     if t.len() == 0 {
-        return refused(1, 0);
+        return refused(Refusal::Malformed, 0);
     }
     read_lines(t)
 }

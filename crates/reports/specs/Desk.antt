@@ -4,8 +4,7 @@ use Rattle.std.specs.Prelude.{List, [], ◌∷◌, ◌++◌, ℕ, suc, leb, eqb,
 use Rattle.laws.specs.Truth.{pick, either}
 use Rattle.lists.specs.Places.{full}
 use Rattle.printed.specs.Printed.{text_of}
-use Rattle.reading.specs.declared.Answer.{Answer}
-use Rattle.reading.specs.Reading.{read_book}
+use Rattle.reading.specs.Reading.{Answer, read_book}
 use Rattle.call_lines.specs.Work.{Answers, answers_in, makes_book}
 use Rattle.put.specs.Output.{refusal_text}
 use Rattle.reports.specs.declared.Desk.{Desk}

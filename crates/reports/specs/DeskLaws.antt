@@ -19,11 +19,9 @@ use Rattle.put.specs.PutLaws.{Put, put_is, put_says, put_none, put_then, laid_st
 use Rattle.rows.specs.declared.Book.{Book}
 use Rattle.rules.specs.Rules.{sound_book}
 use Rattle.rules.specs.RuleLaws.{sound_is, sound_back}
-use Rattle.printed.specs.declared.Printed.{Printed}
-use Rattle.printed.specs.Printed.{text_of, print_checks, print_answer, print_exit}
+use Rattle.printed.specs.Printed.{text_of, Printed, print_checks, print_answer, print_exit}
 use Rattle.printed.specs.PrintedLaws.{text_fits}
-use Rattle.reading.specs.declared.Answer.{Answer}
-use Rattle.reading.specs.Reading.{read_book}
+use Rattle.reading.specs.Reading.{Answer, read_book}
 use Rattle.trip.proofs.TripLaws.{read_sound}
 use Rattle.call_lines.specs.declared.Worked.{Worked}
 use Rattle.call_lines.specs.Work.{answers_in, worked_as, worked, makes_book}

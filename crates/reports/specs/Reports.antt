@@ -6,7 +6,7 @@ use Rattle.laws.specs.Text.{byte}
 use Rattle.digits.specs.Digits.{fixed, numerals}
 use Rattle.lines.specs.Texts.{line_text}
 use Rattle.rows.specs.declared.Book.{Book}
-use Rattle.reading.specs.declared.Answer.{Answer}
+use Rattle.reading.specs.Reading.{Answer}
 use Rattle.sheets.specs.Rows.{Rows}
 use Rattle.checking.specs.Reading.{Judged, rows_of}
 use Rattle.put.specs.Output.{refusal_text}

@@ -8,14 +8,14 @@ ghost use Rattle.put.specs.Put.{laid, end_of};
 ghost use Rattle.put.specs.Output.{output_of};
 ghost use Rattle.reading.specs.Reading.{read_book};
 ghost use Rattle.checking.specs.Reading.{judged};
-ghost use Rattle.account.specs.Margin.{margin_text};
+ghost use Rattle.account.specs.Margin.{margin_text, margin_in};
 ghost use Rattle.call_lines.specs.Work.{answers_in};
 ghost use Rattle.reports.specs.Reports.{book_text, counts_text, book_report, sheet_report};
 ghost use Rattle.reports.specs.Counts.{lines_with};
 ghost use Rattle.reports.specs.Statement.{result_text, margin_line_text, statement_text};
 ghost use Rattle.reports.specs.Desk.{line_answer, refusals_from, answers_text, desk_text, desk_of};
 
-use account::Margin;
+use laws::Fault;
 use levels::Levels;
 use put::Output;
 use rows::Book;
@@ -75,14 +75,14 @@ fn lines_with(t: &[u8], letter: u8) -> usize
 pub fn of_book(text: &[u8]) -> Output
     ensures { result ≡ output_of (book_report (read_book text.now)) }
 {
-    let read = reading::read(text);
-    if read.number != 0 {
-        return put::refusal(read.number, read.line);
+    match reading::read(text) {
+        Ok(b) => {
+            let mut line = [0u8; 96];
+            let length = put_book(&mut line, b);
+            Output { text: line, length }
+        }
+        Err(fault) => put::refusal(fault.refusal.number(), fault.line),
     }
-    let b = read.book;
-    let mut line = [0u8; 96];
-    let length = put_book(&mut line, b);
-    Output { text: line, length }
 }
 
 // The line of a sheet's text.
@@ -90,8 +90,8 @@ pub fn of_sheet(text: &[u8]) -> Output
     ensures { result ≡ output_of (sheet_report (judged text.now)) }
 {
     let sheet = checking::read(text);
-    if sheet.number != 0 {
-        return put::refusal(sheet.number, sheet.line);
+    if let Some(fault) = sheet.fault {
+        return put::refusal(fault.refusal.number(), fault.line);
     }
     let futures = lines_with(text, b'F');
     let options = lines_with(text, b'O');
@@ -124,19 +124,18 @@ fn result(account: u32, day: u32, l: Levels) -> Output
 }
 
 // The line of a margin call on a book.
-pub fn line_of(b: Book, m: Margin) -> Output
-    ensures { result ≡ output_of (margin_line_text b m) }
+pub fn line_of(b: Book, m: Result<Levels, Fault>) -> Output
+    ensures { result ≡ output_of (margin_line_text b (margin_in m)) }
 {
-    if m.number != 0 {
-        return put::refusal(m.number, m.line);
+    match m {
+        Ok(levels) => result(b.account, b.day, levels),
+        Err(why) => put::refusal(why.refusal.number(), why.line),
     }
-    let levels = m.levels;
-    result(b.account, b.day, levels)
 }
 
 // The margin of a book on a text as sheet.
-pub fn margin_of(b: Book, text: &[u8]) -> Margin
-    ensures { result ≡ margin_text b text.now }
+pub fn margin_of(b: Book, text: &[u8]) -> Result<Levels, Fault>
+    ensures { margin_in result ≡ margin_text b text.now }
 {
     account::margin_on(b, checking::read(text))
 }
@@ -145,12 +144,10 @@ pub fn margin_of(b: Book, text: &[u8]) -> Margin
 pub fn of_margin(book: &[u8], sheet: &[u8]) -> Output
     ensures { result ≡ output_of (statement_text book.now sheet.now) }
 {
-    let a = reading::read(book);
-    if a.number != 0 {
-        return put::refusal(a.number, a.line);
+    match reading::read(book) {
+        Ok(b) => line_of(b, margin_of(b, sheet)),
+        Err(f) => put::refusal(f.refusal.number(), f.line),
     }
-    let b = a.book;
-    line_of(b, margin_of(b, sheet))
 }
 
 // A text: its bytes, then zeros, and how many they are.
@@ -177,10 +174,8 @@ fn put_answers(dst: &mut [u8], at: usize, numbers: &[u8]) -> usize
     ensures { (result ≡ end_of dst.old at (refusals_from 1 numbers.now)) × (dst.new ≡ laid dst.old at (refusals_from 1 numbers.now)) }
 {
     let mut end = at;
-    let mut i: usize = 0;
-    while i < numbers.len() {
-        end = put_answer(dst, end, numbers[i], (i + 1) as u32);
-        i += 1;
+    for (i, number) in numbers.iter().enumerate() {
+        end = put_answer(dst, end, *number, (i + 1) as u32);
     }
     end
 }
@@ -191,11 +186,9 @@ fn put_worked(dst: &mut [u8], b: Book, calls: &[u8]) -> usize
     ensures { (result ≡ end_of dst.old 0 (answers_text (answers_in b calls.now))) × (dst.new ≡ laid dst.old 0 (answers_text (answers_in b calls.now))) }
 {
     let w = call_lines::work(b, calls);
-    let book = w.book;
+    let end = printed::print(w.book, dst).unwrap_or(0);
     let numbers = w.numbers;
-    let lines = w.lines;
-    let p = printed::print(book, dst);
-    put_answers(dst, p.length, &numbers[..lines])
+    put_answers(dst, end, &numbers[..w.lines])
 }
 
 fn put_desk(dst: &mut [u8], book: &[u8], calls: &[u8]) -> usize
@@ -205,15 +198,13 @@ fn put_desk(dst: &mut [u8], book: &[u8], calls: &[u8]) -> usize
     if 65536 < calls.len() {
         return put::put_refusal(dst, 0, 2, 0);
     }
-    let read = reading::read(book);
-    let b = read.book;
-    if read.number == 0 {
-        return put_worked(dst, b, calls);
+    match reading::read(book) {
+        Ok(b) => put_worked(dst, b, calls),
+        Err(_) if call_lines::makes_book(calls) => {
+            put_worked(dst, rows::empty_book(0, b'0', 20000101), calls)
+        }
+        Err(f) => put::put_refusal(dst, 0, f.refusal.number(), f.line),
     }
-    if call_lines::makes_book(calls) {
-        return put_worked(dst, b, calls);
-    }
-    put::put_refusal(dst, 0, read.number, read.line)
 }
 
 // What is printed of a book's text and a text of call lines.

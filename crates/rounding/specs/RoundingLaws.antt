@@ -1,8 +1,9 @@
 -- Laws of rounding, for every ratio and step: what is defined has its meaning, and no other number has.
-use Rattle.std.specs.Prelude.{◌≡◌, ℕ, zero, suc, ◌+◌, ◌-◌, ◌*◌, ◌/◌, ◌%◌, ◌≤◌, ◌<◌, max}
+use Rattle.std.specs.Prelude.{◌≡◌, ℕ, zero, suc, ◌+◌, ◌-◌, ◌*◌, ◌/◌, ◌%◌, ◌≤◌, ◌<◌, max, min}
 use Rattle.std.proofs.Math.Path.{sym}
 use Rattle.std.proofs.Common.{◌∙◌, ap, mul-le-mul_right, le_antisymm, le_trans, mul-le-mul_left, div-mul-le_self, lt_of_mul-lt-mul_right, mul_comm, mul-pos, mul-le-mul, zero-mul, mul-zero, mul-one, arith, lit<}
 use Rattle.std.proofs.Math.Nat.{mul-mod_left, div-add-mod', mod-lt, div-eq_of_lt-le, mul_assoc, add-mul, one-mul, mul_left_comm, div-zero, mul-div-mul_right}
+use Rattle.std.proofs.lemmas.Grind.{div_ceil_times}
 use Rattle.rounding.specs.Rounding.{LeastMultiple, NearestMultiple, steps_up, steps_near, round_up, half_up, to_dollar}
 
 module _ (n size : ℕ) where
@@ -28,6 +29,9 @@ module _ (n size : ℕ) where
       up_only (n / size + 1)
       (omega (arith, div-add-mod' n size, mod-lt n h, add-mul (n / size) 1 size, one-mul size))
       (omega (arith, div-add-mod' n size, add-mul (n / size) 1 size, one-mul size))
+
+  pub up_ceil : 0 < size → n / size + min 1 (n % size) ≡ steps_up n size
+  up_ceil h = let t = div_ceil_times n size h in up_only _ t.0 t.1
 
   -- One more than the quotient is not above n where something is left over.
   pub one_more_fits : 0 < size → 0 < n % size → n / size + 1 ≤ n
@@ -135,6 +139,11 @@ near_fits n den step h = steps_fit n den step (steps_near n (den * step)) h (ome
 pub dollars_of_thousandths : (n : ℕ) → half_up n 1000 1 ≡ to_dollar (n * 100000)
 unfolding to_dollar half_up
 dollars_of_thousandths n = ap (λ (x : ℕ). x * 1) (sym (near_scale n 1000 100000 (lit< tt)))
+
+-- A dollar is a step.
+pub to_dollar_steps : (fine : ℕ) → steps_near fine 100000000 ≡ to_dollar fine
+unfolding to_dollar half_up
+to_dollar_steps fine = sym (mul-one _)
 
 -- Exact amounts of at most `most` dollars are rounded to at most as many.
 pub dollar_most : (x most : ℕ) → x ≤ most * 100000000 → to_dollar x ≤ most

@@ -7,7 +7,7 @@ use Rattle.laws.specs.ByteLaws.{are_same}
 use Rattle.laws.specs.Search.{every_line}
 use Rattle.laws.specs.Order.{order_of, then_by, bytes_order, is_same}
 use Rattle.laws.specs.OrderLaws.{is_same_lem, split, then_same, same_in_order}
-use Rattle.laws.specs.declared.Order.{Order}
+use Rattle.std.specs.declared.cmp.Ordering.{Ordering}
 use Rattle.series.specs.declared.Series.{Series}
 use Rattle.series.specs.declared.Nature.{Nature}
 use Rattle.series.specs.declared.Nature.TheVariants.{Future, Call, Put}
@@ -24,24 +24,24 @@ pub rank_order : (a b : Series) → bytes_order (series_rank a) (series_rank b) 
 unfolding series_rank bytes_order series_order
 rank_order a b = then_same (series_order a b)
 
-pub same_by_order : (a b : Series) {o : Order} → o ≡ series_order a b → is_same o ≡ same_series a b
+pub same_by_order : (a b : Series) {o : Ordering} → o ≡ series_order a b → is_same o ≡ same_series a b
 unfolding same_series
 same_by_order a b e = ap is_same (e ∙ sym (rank_order a b)) ∙ same_in_order (series_rank a) (series_rank b)
 
 -- The order of pairs is by kind, first series, second series, r1, r2; and the order where kind and first series are the same.
-unfoldable pub rest_order : Pair → Pair → Order
+unfoldable pub rest_order : Pair → Pair → Ordering
 rest_order p q = then_by (series_order p.second q.second) (then_by (order_of p.r1 q.r1) (order_of p.r2 q.r2))
 
 pub pair_order : (p q : Pair) → bytes_order (pair_rank p) (pair_rank q) ≡ then_by (order_of p.kind q.kind) (then_by (series_order p.first q.first) (rest_order p q))
 unfolding pair_rank bytes_order series_order rest_order
 pair_order p q = simp then_same
 
-module _ (p q : Pair) {o : Order} where
+module _ (p q : Pair) {o : Ordering} where
   pub kinds_differ : (p.kind ≡ q.kind → ⊥) → o ≡ order_of p.kind q.kind → o ≡ bytes_order (pair_rank p) (pair_rank q)
   kinds_differ n e =
-      e ∙ sym (pair_order p q ∙ split (λ (x : Order). then_by x (then_by (series_order p.first q.first) (rest_order p q)) ≡ x) p.kind q.kind (λ h. refl) (λ h. absurd (n h)) (λ h. refl))
+      e ∙ sym (pair_order p q ∙ split (λ (x : Ordering). then_by x (then_by (series_order p.first q.first) (rest_order p q)) ≡ x) p.kind q.kind (λ h. refl) (λ h. absurd (n h)) (λ h. refl))
 
-  pub firsts_decide : {x : Order} → p.kind ≡ q.kind → x ≡ series_order p.first q.first → o ≡ then_by x (rest_order p q) → o ≡ bytes_order (pair_rank p) (pair_rank q)
+  pub firsts_decide : {x : Ordering} → p.kind ≡ q.kind → x ≡ series_order p.first q.first → o ≡ then_by x (rest_order p q) → o ≡ bytes_order (pair_rank p) (pair_rank q)
   firsts_decide k e f = f ∙ rw e (sym (pair_order p q ∙ rw (sym (is_same_lem k))))
 
 -- Empty rows are what they are tested to be.

@@ -1,17 +1,16 @@
-// The book's types: holdings, pairs, the book; rows of nothing, and the order of rows.
+// The book's types: holdings, pairs, the book; rows of nothing, the order of rows, and what the two kinds of row have in common.
 #![tactic(auto)]
 
-ghost use Rattle.std.specs.Prelude.{◌≡◌, ◌-◌};
+ghost use Rattle.std.specs.Prelude.{◌≡◌, ◌-◌, Bool, List, ℕ};
 ghost use Rattle.laws.specs.Order.{bytes_order};
-ghost use Rattle.rows.specs.Rows.{holding_rank, pair_rank, same_series, new_holding, new_pair, no_lots, no_units, lots_on, lessened, empty_series, empty_holding, empty_pair, is_empty_series, is_empty_holding, is_empty_pair};
-ghost use Rattle.rows.specs.RowLaws.{rest_order};
+ghost use Rattle.rows.specs.Rows.{holding_rank, pair_rank, same_series, new_holding, new_pair, new_of, no_lots, no_units, lots_on, lessened, empty_series, empty_holding, empty_pair, is_empty_holding, is_empty_pair};
 ghost use Rattle.rows.specs.Book.{empty_book};
 
-use laws::Order;
 use series::{Nature, Series, Side};
+use std::cmp::Ordering;
 
 // A series with its long and short totals.
-#[derive(Clone, Copy)]
+#[derive(Clone, Copy, Debug, PartialEq, Eq)]
 pub struct Holding {
     pub series: Series,
     pub long: u32,
@@ -19,7 +18,7 @@ pub struct Holding {
 }
 
 // A kind, two series, the lots per unit of each, and units.
-#[derive(Clone, Copy)]
+#[derive(Clone, Copy, Debug, PartialEq, Eq)]
 pub struct Pair {
     pub kind: u32,
     pub first: Series,
@@ -41,11 +40,112 @@ pub struct Book {
     pub paired: usize,
 }
 
-pub fn new_holding(s: Series) -> Holding
-    ensures { result ≡ new_holding s }
+// What holdings and pairs have in common: they stand in the order of their ranks, a row of which nothing is left gives up its place, and
+// empty rows fill the room behind the live ones.
+pub trait Row: Copy {
+    ghost rank: { Self → List ℕ };
+
+    ghost gone: { Self → Bool };
+
+    ghost nothing: { Self → Self };
+
+    ghost empty: { Self };
+
+    ghost is_empty: { Self → Bool };
+
+    fn compare(&self, other: &Self) -> Ordering
+        ensures { result ≡ bytes_order (rank self.now) (rank other.now) };
+
+    // Whether nothing is left of the row.
+    fn is_gone(&self) -> bool
+        ensures { result ≡ gone self.now };
+
+    // A row of the same rank, of which nothing is left.
+    fn nothing(&self) -> Self
+        ensures { result ≡ nothing self.now };
+
+    fn empty() -> Self
+        ensures { result ≡ empty };
+
+    fn is_empty(&self) -> bool
+        ensures { result ≡ is_empty self.now };
+}
+
+impl Row for Holding {
+    ghost rank = { holding_rank };
+
+    ghost gone = { no_lots };
+
+    ghost nothing = { λ h. new_holding h.series };
+
+    ghost empty = { empty_holding };
+
+    ghost is_empty = { is_empty_holding };
+
+    fn compare(&self, other: &Holding) -> Ordering {
+        compare_holdings(*self, *other)
+    }
+
+    fn is_gone(&self) -> bool {
+        no_lots(*self)
+    }
+
+    fn nothing(&self) -> Holding {
+        new_holding(self.series)
+    }
+
+    fn empty() -> Holding {
+        empty_holding()
+    }
+
+    fn is_empty(&self) -> bool {
+        is_empty_holding(*self)
+    }
+}
+
+impl Row for Pair {
+    ghost rank = { pair_rank };
+
+    ghost gone = { no_units };
+
+    ghost nothing = { new_of };
+
+    ghost empty = { empty_pair };
+
+    ghost is_empty = { is_empty_pair };
+
+    // By kind, first series, second series, r1, r2.
+    #[tactic(auto, using(crate::specs::RowLaws::pair_order), unfolding(crate::specs::RowLaws::rest_order, laws::specs::Order::order_of))]
+    fn compare(&self, other: &Pair) -> Ordering {
+        self.kind
+            .cmp(&other.kind)
+            .then_with(|| series::compare(self.first, other.first))
+            .then_with(|| series::compare(self.second, other.second))
+            .then_with(|| self.r1.cmp(&other.r1).then(self.r2.cmp(&other.r2)))
+    }
+
+    fn is_gone(&self) -> bool {
+        no_units(*self)
+    }
+
+    fn nothing(&self) -> Pair {
+        new_pair(self.kind, self.first, self.second, self.r1, self.r2)
+    }
+
+    fn empty() -> Pair {
+        empty_pair()
+    }
+
+    fn is_empty(&self) -> bool {
+        is_empty_pair(*self)
+    }
+}
+
+pub fn new_holding(series: Series) -> Holding
+    ensures { result ≡ new_holding series }
 {
     Holding {
-        series: s,
+        series,
         long: 0,
         short: 0,
     }
@@ -68,18 +168,20 @@ fn empty_series() -> Series
     ensures { result ≡ empty_series }
 {
     Series {
-        code: [0u8; 3],
+        code: [0; 3],
         date: 0,
         nature: Nature::Future,
     }
 }
 
+#[tactic(auto, unfolding(crate::specs::Rows::empty_holding))]
 pub fn empty_holding() -> Holding
     ensures { result ≡ empty_holding }
 {
     new_holding(empty_series())
 }
 
+#[tactic(auto, unfolding(crate::specs::Rows::empty_pair))]
 pub fn empty_pair() -> Pair
     ensures { result ≡ empty_pair }
 {
@@ -87,18 +189,17 @@ pub fn empty_pair() -> Pair
 }
 
 // A book without rows: both arrays are filled by repeat of an empty row.
+#[tactic(auto, unfolding(crate::specs::Book::empty_book, crate::specs::Book::book_of, lists::specs::Places::full))]
 pub fn empty_book(account: u32, identity: u8, day: u32) -> Book
     ensures { result ≡ empty_book account identity day }
 {
-    let h = empty_holding();
-    let p = empty_pair();
     Book {
         account,
         identity,
         day,
-        holdings: [h; 128],
+        holdings: [empty_holding(); 128],
         held: 0,
-        pairs: [p; 128],
+        pairs: [empty_pair(); 128],
         paired: 0,
     }
 }
@@ -106,7 +207,7 @@ pub fn empty_book(account: u32, identity: u8, day: u32) -> Book
 pub fn no_lots(h: Holding) -> bool
     ensures { result ≡ no_lots h }
 {
-    laws::and(h.long == 0, h.short == 0)
+    h.long == 0 && h.short == 0
 }
 
 pub fn no_units(p: Pair) -> bool
@@ -115,32 +216,18 @@ pub fn no_units(p: Pair) -> bool
     p.units == 0
 }
 
-fn is_empty_series(s: Series) -> bool
-    ensures { result ≡ is_empty_series s }
-{
-    let code = s.code;
-    let nature = s.nature;
-    let blank = codes::same_code(code, [0u8; 3]);
-    let future = series::is_future(nature);
-    laws::and(blank, laws::and(s.date == 0, future))
-}
-
+#[tactic(auto, using(laws::specs::ByteLaws::as_pointwise), unfolding(crate::specs::Rows::is_empty_holding, crate::specs::Rows::is_empty_series, crate::specs::Rows::empty_holding))]
 pub fn is_empty_holding(h: Holding) -> bool
     ensures { result ≡ is_empty_holding h }
 {
-    let s = h.series;
-    laws::and(is_empty_series(s), no_lots(h))
+    h == empty_holding()
 }
 
+#[tactic(auto, using(laws::specs::ByteLaws::as_pointwise), unfolding(crate::specs::Rows::is_empty_pair, crate::specs::Rows::is_empty_series, crate::specs::Rows::empty_pair))]
 pub fn is_empty_pair(p: Pair) -> bool
     ensures { result ≡ is_empty_pair p }
 {
-    let a = p.first;
-    let b = p.second;
-    let r2 = laws::and(p.r2 == 0, no_units(p));
-    let r1 = laws::and(p.r1 == 0, r2);
-    let kind = laws::and(p.kind == 0, r1);
-    laws::and(is_empty_series(a), laws::and(is_empty_series(b), kind))
+    p == empty_pair()
 }
 
 // The lots of one side.
@@ -153,73 +240,41 @@ pub fn lots_on(side: Side, h: Holding) -> u32
     }
 }
 
-// A number less another, at least 0.
-fn less_by(x: u32, y: u32) -> u32
-    ensures { result ≡ x - y }
-{
-    if y < x { x - y } else { 0 }
-}
-
 // A holding with fewer lots on one side, at least 0.
 pub fn lessen(side: Side, lots: u32, h: Holding) -> Holding
     ensures { result ≡ lessened side lots h }
 {
-    let s = h.series;
     match side {
         Side::Long => Holding {
-            series: s,
-            long: less_by(h.long, lots),
-            short: h.short,
+            long: h.long.saturating_sub(lots),
+            ..h
         },
         Side::Short => Holding {
-            series: s,
-            long: h.long,
-            short: less_by(h.short, lots),
+            short: h.short.saturating_sub(lots),
+            ..h
         },
     }
 }
 
 // Whether two series are one.
+#[tactic(auto, using(crate::specs::RowLaws::same_by_order))]
 pub fn same_series(a: Series, b: Series) -> bool
     ensures { result ≡ same_series a b }
 {
-    laws::is_same(series::compare(a, b))
+    series::compare(a, b).is_eq()
 }
 
 // The order of two holdings, which is that of their series.
-pub fn compare_holdings(h: Holding, k: Holding) -> Order
+#[tactic(auto, using(crate::specs::RowLaws::rank_order), unfolding(crate::specs::Rows::holding_rank))]
+pub fn compare_holdings(h: Holding, k: Holding) -> Ordering
     ensures { result ≡ bytes_order (holding_rank h) (holding_rank k) }
 {
-    let a = h.series;
-    let b = k.series;
-    series::compare(a, b)
+    series::compare(h.series, k.series)
 }
 
-// The order of two pairs of one kind and first series: by second series, r1, r2.
-fn compare_rest(p: Pair, q: Pair) -> Order
-    ensures { result ≡ rest_order p q }
-{
-    let b = p.second;
-    let d = q.second;
-    let seconds = series::compare(b, d);
-    let r1 = laws::order_of(p.r1 as u64, q.r1 as u64);
-    let r2 = laws::order_of(p.r2 as u64, q.r2 as u64);
-    laws::then_by(seconds, laws::then_by(r1, r2))
-}
-
-// The order of two pairs: by kind, first series, second series, r1, r2.
-pub fn compare_pairs(p: Pair, q: Pair) -> Order
+// The order of two pairs.
+pub fn compare_pairs(p: Pair, q: Pair) -> Ordering
     ensures { result ≡ bytes_order (pair_rank p) (pair_rank q) }
 {
-    if p.kind != q.kind {
-        return laws::order_of(p.kind as u64, q.kind as u64);
-    }
-    let a = p.first;
-    let c = q.first;
-    let firsts = series::compare(a, c);
-    match firsts {
-        Order::Less => Order::Less,
-        Order::Same => compare_rest(p, q),
-        Order::More => Order::More,
-    }
+    p.compare(&q)
 }

@@ -1,22 +1,27 @@
 -- Laws of the rules of a book: the test of soundness and the facts that it stands for are one.
-use Rattle.std.specs.Prelude.{◌≡◌, Bool, eqb, leb}
+use Rattle.std.specs.Prelude.{◌≡◌, Bool, eqb, leb, Result, Ok, Err, is_ok}
 use Rattle.std.proofs.Math.Path.{refl, ap, sym}
 use Rattle.std.proofs.Common.{◌∙◌, ⊎_elim, arith, take-append-drop}
 use Rattle.std.proofs.Math.Bool.{true}
 use mathlib.Core.List.{List, ◌++◌}
 use Prim.Native.Nat.{ℕ, zero, suc, ◌-◌, ◌*◌, ◌≤◌}
 use Rattle.std.proofs.Math.ListN.{length, take, drop, replicate, length-take, length-drop}
-use borrow.Author.Tests.{eq-eqb, eqb-true, le-leb, leb-true, not-true}
+use borrow.Author.Tests.{eq-eqb, ne_eqb, eqb-true, le-leb, leb-true, not-true}
 use Rattle.laws.specs.Truth.{within}
 use Rattle.laws.specs.TruthLaws.{both_true, both_hold, either_true, within_true, is_within}
 use Rattle.laws.specs.Text.{byte}
 use Rattle.laws.specs.Search.{every_line}
 use Rattle.laws.specs.Checks.{all_pass}
+use Rattle.laws.specs.declared.Refusal.{Refusal}
+use Rattle.laws.specs.Refusals.{number_in}
+use Rattle.laws.specs.RefusalLaws.{refusal_positive}
 use Rattle.lists.specs.Places.{full}
 use Rattle.lists.specs.PlaceLaws.{length_full, take_full, drop_full}
 use Rattle.lists.specs.Sorted.{ascending}
 use Rattle.dates.specs.Calendar.{is_day}
-use Rattle.series.specs.Checks.{good_series}
+use Rattle.series.specs.declared.Series.{Series}
+use Rattle.series.specs.Checks.{series_number, good_series}
+use Rattle.series.specs.CheckLaws.{good_by_number}
 use Rattle.rows.specs.declared.Holding.{Holding}
 use Rattle.rows.specs.declared.Pair.{Pair}
 use Rattle.rows.specs.declared.Book.{Book}
@@ -27,6 +32,13 @@ use Rattle.rules.specs.Lots.{covered}
 use Rattle.rules.specs.LotLaws.{covered_all, all_covered}
 use Rattle.rules.specs.Rules.{account_fits, is_identity, ratio_fits, lots_fit, counts_fit, good_lots, good_holding, good_pair, rows_sound, holdings_sound, pairs_sound, book_rules, sound_book}
 use Rattle.rules.specs.Facts.{SoundRows, GoodHolding, Counts, GoodPair, Sound}
+
+-- A series is good exactly where its check answers Ok.
+pub good_by_check : (s : Series) (r : Result Unit Refusal) → number_in r ≡ series_number s → is_ok r ≡ good_series s
+good_by_check s (Ok a) e = ap (λ (n : ℕ). eqb n 0) e ∙ good_by_number s
+good_by_check s (Err r) e =
+    let h = refusal_positive r in
+    sym (ne_eqb (series_number s) 0 (λ z. omega arith)) ∙ good_by_number s
 
 module _ {A : Type 0} (is_empty good : A → Bool) (empty : A) (rank : A → List ℕ) where
   pub rows_are : ((x : A) → is_empty x ≡ true → x ≡ empty) → (live : ℕ) (rows : List A) → rows_sound is_empty good rank live rows ≡ true → SoundRows empty good rank live rows

@@ -1,7 +1,7 @@
 -- Document 01, "Series": "Order of series: code bytes (a prefix first), date, nature letter C, F, P, strike". A two-letter
 -- code ends in a 0 byte, so a prefix comes first.
 use Rattle.std.specs.Prelude.{List, ℕ, ◌^◌, get_or}
-use Rattle.laws.specs.declared.Order.{Order}
+use Rattle.std.specs.declared.cmp.Ordering.{Ordering}
 use Rattle.laws.specs.Order.{order_of, then_by, bytes_order, join}
 use Rattle.series.specs.declared.Series.{Series}
 use Rattle.series.specs.declared.Nature.{Nature}
@@ -9,7 +9,7 @@ use Rattle.series.specs.declared.Halves.{Halves}
 use Rattle.series.specs.Natures.{letter_of, strike_of}
 
 -- the order in the paper's words
-unfoldable pub parts_order : Series → Series → Order
+unfoldable pub parts_order : Series → Series → Ordering
 parts_order a b =
     then_by (bytes_order a.code b.code)
     (then_by (order_of a.date b.date)
@@ -35,5 +35,5 @@ key s = join (2 ^ 40) (high_key s) (nature_key s.nature)
 abbrev pub halves_of : Series → Halves
 halves_of s = record { high = high_key s; low = nature_key s.nature }
 
-unfoldable pub series_order : Series → Series → Order
+unfoldable pub series_order : Series → Series → Ordering
 series_order a b = order_of (key a) (key b)

@@ -1,8 +1,8 @@
 -- Laws of the order of series: it is by parts as the paper has it, total, and the same only for one series.
 use Rattle.std.specs.Prelude.{◌≡◌, refl, ◌⊎◌, true, List, [], ◌∷◌, ℕ, ◌<◌, ◌≤◌, ◌^◌, get_or}
 use Rattle.std.proofs.Common.{sym, ◌∙◌, ap, inl, inr, arith}
-use Rattle.laws.specs.declared.Order.{Order}
-use Rattle.laws.specs.declared.Order.TheVariants.{Less, Same}
+use Rattle.std.specs.declared.cmp.Ordering.{Ordering}
+use Rattle.std.specs.declared.cmp.Ordering.TheVariants.{Less, Equal}
 use Rattle.laws.specs.TruthLaws.{both_true, within_true}
 use Rattle.laws.specs.Order.{order_of, then_by, bytes_order, join}
 use Rattle.laws.specs.OrderLaws.{join_order, both_same, then_by_then, then_same, same_text, is_less_lem, less_says, same_says, split, three_order}
@@ -18,7 +18,7 @@ use Rattle.series.specs.Natures.{letter_of, strike_of}
 use Rattle.series.specs.Key.{parts_order, code_key, nature_key, high_key, key, series_order}
 
 -- First by code and date, then by nature and strike.
-pub by_halves : (a b : Series) {r : Order} → nature_key a.nature < 2 ^ 40 → nature_key b.nature < 2 ^ 40 → r ≡ then_by (order_of (high_key a) (high_key b)) (order_of (nature_key a.nature) (nature_key b.nature)) → r ≡ series_order a b
+pub by_halves : (a b : Series) {r : Ordering} → nature_key a.nature < 2 ^ 40 → nature_key b.nature < 2 ^ 40 → r ≡ then_by (order_of (high_key a) (high_key b)) (order_of (nature_key a.nature) (nature_key b.nature)) → r ≡ series_order a b
 unfolding series_order key
 by_halves a b h k e = e ∙ sym (join_order (2 ^ 40) (high_key a) (high_key b) (nature_key a.nature) (nature_key b.nature) h k)
 
@@ -89,7 +89,7 @@ halves_order a b ga gb =
     ap (then_by (order_of (high_key a) (high_key b))) (then_same _) ∙ by_halves a b (nature_fits a.nature (good_fits a ga).strike) (nature_fits b.nature (good_fits b gb).strike) refl
 
 -- Only one series is the same in the order as a series whose parts are in their ranges: itself; so it is with those that pass the checks.
-pub same_fitting : (a b : Series) → Fits a → Fits b → series_order a b ≡ Same → a ≡ b
+pub same_fitting : (a b : Series) → Fits a → Fits b → series_order a b ≡ Equal → a ≡ b
 unfolding parts_order
 same_fitting a b fa fb e =
     let h = both_same _ _ (sym (by_parts a b fa fb) ∙ e) in
@@ -100,14 +100,14 @@ same_fitting a b fa fb e =
     let n = same_nature_lem a.nature b.nature (same_says _ _ l.0) (same_says _ _ l.1) in
     λ i. record { code = c i; date = d i; nature = n i }
 
-pub same_series_lem : (a b : Series) → good_series a ≡ true → good_series b ≡ true → series_order a b ≡ Same → a ≡ b
+pub same_series_lem : (a b : Series) → good_series a ≡ true → good_series b ≡ true → series_order a b ≡ Equal → a ≡ b
 same_series_lem a b ga gb e = same_fitting a b (good_fits a ga) (good_fits b gb) e
 
 -- Of two series that pass the checks one is before the other, or they are one.
 pub total : (a b : Series) → good_series a ≡ true → good_series b ≡ true → (series_order a b ≡ Less) ⊎ (a ≡ b) ⊎ (series_order b a ≡ Less)
 unfolding series_order
 total a b ga gb =
-    split (λ (o : Order). series_order a b ≡ o → (series_order a b ≡ Less) ⊎ (a ≡ b) ⊎ (series_order b a ≡ Less)) (key a) (key b)
+    split (λ (o : Ordering). series_order a b ≡ o → (series_order a b ≡ Less) ⊎ (a ≡ b) ⊎ (series_order b a ≡ Less)) (key a) (key b)
     (λ h e. inl e)
     (λ h e. inr (inl (same_series_lem a b ga gb e)))
     (λ h e. inr (inr (sym (is_less_lem h))))

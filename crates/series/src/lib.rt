@@ -2,22 +2,24 @@
 #![tactic(auto)]
 
 ghost use Rattle.std.specs.Prelude.{◌≡◌, ◌<◌};
+ghost use Rattle.laws.specs.Refusals.{number_in};
 ghost use Rattle.series.specs.Checks.{strike_fits, suits, series_number};
 ghost use Rattle.series.specs.Natures.{is_future, is_call, is_put, letter_of, strike_of};
 ghost use Rattle.series.specs.Key.{high_key, nature_key, halves_of, series_order};
 
 use codes::Class;
-use laws::Order;
+use laws::Refusal;
+use std::cmp::Ordering;
 
 // A future, a call with its strike or a put with its strike.
-#[derive(Clone, Copy)]
+#[derive(Clone, Copy, Debug, PartialEq, Eq)]
 pub enum Nature {
     Future,
     Call(u32),
     Put(u32),
 }
 
-#[derive(Clone, Copy)]
+#[derive(Clone, Copy, Debug, PartialEq, Eq)]
 pub struct Series {
     pub code: [u8; 3],
     pub date: u32,
@@ -32,7 +34,7 @@ pub struct Halves {
 }
 
 // The two sides on which lots of a series are held.
-#[derive(Clone, Copy)]
+#[derive(Clone, Copy, Debug, PartialEq, Eq)]
 pub enum Side {
     Long,
     Short,
@@ -50,57 +52,39 @@ pub fn nature_suits(class: Class, nature: Nature) -> bool
 {
     match nature {
         Nature::Future => codes::is_future_class(class),
-        Nature::Call(strike) => laws::and(codes::is_option_class(class), strike_fits(strike)),
-        Nature::Put(strike) => laws::and(codes::is_option_class(class), strike_fits(strike)),
+        Nature::Call(strike) | Nature::Put(strike) => {
+            codes::is_option_class(class) && strike_fits(strike)
+        }
     }
 }
 
-// The number that the series is refused by, or 0.
-pub fn series_number(s: Series) -> u8
-    ensures { result ≡ series_number s }
+// The checks on a series: its code, its date, its nature.
+#[tactic(auto, unfolding(crate::specs::Checks::series_number, crate::specs::Checks::series_checks, crate::specs::Checks::class_of, laws::specs::Checks::first_failing))]
+pub fn check(s: Series) -> Result<(), Refusal>
+    ensures { number_in result ≡ series_number s }
 {
-    let code = s.code;
-    let nature = s.nature;
-    let product = codes::product_of(code);
-    let class = product.class;
-    let listed = codes::is_known(class);
-    let dates = dates::is_day(s.date);
-    let natures = nature_suits(class, nature);
-    laws::unless(
-        4,
-        listed,
-        laws::unless(5, dates, laws::unless(2, natures, 0)),
-    )
+    let class = codes::product_of(s.code).class;
+    laws::ensure(codes::is_known(class), Refusal::UnknownCode)?;
+    laws::ensure(dates::is_day(s.date), Refusal::NoSuchDate)?;
+    laws::ensure(nature_suits(class, s.nature), Refusal::OutOfRange)
 }
 
 pub fn is_future(n: Nature) -> bool
     ensures { result ≡ is_future n }
 {
-    match n {
-        Nature::Future => true,
-        Nature::Call(_) => false,
-        Nature::Put(_) => false,
-    }
+    matches!(n, Nature::Future)
 }
 
 pub fn is_call(n: Nature) -> bool
     ensures { result ≡ is_call n }
 {
-    match n {
-        Nature::Future => false,
-        Nature::Call(_) => true,
-        Nature::Put(_) => false,
-    }
+    matches!(n, Nature::Call(_))
 }
 
 pub fn is_put(n: Nature) -> bool
     ensures { result ≡ is_put n }
 {
-    match n {
-        Nature::Future => false,
-        Nature::Call(_) => false,
-        Nature::Put(_) => true,
-    }
+    matches!(n, Nature::Put(_))
 }
 
 // The letter that a nature is written by.
@@ -120,56 +104,43 @@ pub fn strike_of(n: Nature) -> u32
 {
     match n {
         Nature::Future => 0,
-        Nature::Call(strike) => strike,
-        Nature::Put(strike) => strike,
+        Nature::Call(strike) | Nature::Put(strike) => strike,
     }
 }
 
-fn wide8(x: u8) -> u64
-    ensures { (result ≡ x) × (result < 256) }
-{
-    x as u64
-}
-
-fn wide32(x: u32) -> u64
-    ensures { (result ≡ x) × (result < 4294967296) }
-{
-    x as u64
-}
-
 // The code's bytes and the date as one number.
+#[tactic(auto, unfolding(crate::specs::Key::high_key, crate::specs::Key::code_key, laws::specs::Order::join))]
 fn high_key(s: Series) -> u64
     ensures { result ≡ high_key s }
 {
-    let c = s.code;
-    ((wide8(c[0]) * 256 + wide8(c[1])) * 256 + wide8(c[2])) * 4294967296 + wide32(s.date)
+    let [a, b, c] = s.code;
+    let code = (u64::from(a) * 256 + u64::from(b)) * 256 + u64::from(c);
+    code * 4294967296 + u64::from(s.date)
 }
 
 // The nature's letter and the strike as one number.
+#[tactic(auto, unfolding(crate::specs::Key::nature_key, laws::specs::Order::join))]
 fn low_key(n: Nature) -> u64
     ensures { (result ≡ nature_key n) × (result < 1099511627776) }
 {
-    wide8(letter_of(n)) * 4294967296 + wide32(strike_of(n))
+    u64::from(letter_of(n)) * 4294967296 + u64::from(strike_of(n))
 }
 
 // The key of a series, half by half.
 pub fn halves_of(s: Series) -> Halves
     ensures { result ≡ halves_of s }
 {
-    let n = s.nature;
     Halves {
         high: high_key(s),
-        low: low_key(n),
+        low: low_key(s.nature),
     }
 }
 
 // The order of two series.
-pub fn compare(a: Series, b: Series) -> Order
+pub fn compare(a: Series, b: Series) -> Ordering
     ensures { result ≡ series_order a b }
 {
-    let m = a.nature;
-    let n = b.nature;
-    let high = laws::order_of(high_key(a), high_key(b));
-    let low = laws::order_of(low_key(m), low_key(n));
-    laws::then_by(high, low)
+    let high = high_key(a).cmp(&high_key(b));
+    let low = low_key(a.nature).cmp(&low_key(b.nature));
+    high.then(low)
 }

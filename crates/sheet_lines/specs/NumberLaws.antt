@@ -2,7 +2,7 @@
 use Rattle.std.specs.Prelude.{◌≡◌, refl, Bool, true, false, not, List, [], ◌∷◌, ℕ, zero, suc, ◌<◌, ◌≤◌, eqb, ltb}
 use Rattle.std.proofs.Common.{sym, arith}
 use borrow.Author.Tests.{lt-ltb, le-ltb, ne_eqb}
-use Rattle.laws.specs.declared.Order.{Order}
+use Rattle.std.specs.declared.cmp.Ordering.{Ordering}
 use Rattle.laws.specs.Truth.{pick, either}
 use Rattle.laws.specs.Text.{byte}
 use Rattle.laws.specs.Checks.{◌unless◌, first_failing, numbered, or_else}
@@ -61,6 +61,11 @@ number_is letter cs last before =
       by_letter_lem (λ d g x. is_head x ≡ d) cs refl refl refl refl refl refl letter,
     )
 
+pub number_steps : (letter : ℕ) (cs : List Cell) (last : ℕ) (before : List Cell)
+    → number_for letter cs last before
+    ≡ pick (either (not (eqb last 0)) (eqb letter (byte "D"))) (or_else (first_failing (own_checks (said letter cs))) (pick (is_less (bytes_order (rank (said last before)) (rank (said letter cs)))) 0 3)) 1
+number_steps letter cs last before = sym (number_is letter cs last before)
+
 -- A line's rank by its group: behind the group nothing in a D line, the series' key in a Q line, else the code.
 key_for : ℕ → List Cell → List ℕ
 key_for group cs = pick (eqb group 1) [] (pick (eqb group 5) (key (price_from cs).series ∷ []) (cell cs 0).code)
@@ -80,7 +85,7 @@ other_group zero zero cs ds h = absurd (h refl)
 other_group zero (suc n) cs ds h = lt-ltb 0 (suc n) (omega arith)
 other_group (suc m) zero cs ds h = le-ltb (suc m) 0 (omega arith)
 other_group (suc m) (suc n) cs ds h =
-    split (λ (o : Order). ltb (suc m) (suc n) ≡ is_less (then_by o (bytes_order (key_for (suc m) cs) (key_for (suc n) ds)))) (suc m) (suc n)
+    split (λ (o : Ordering). ltb (suc m) (suc n) ≡ is_less (then_by o (bytes_order (key_for (suc m) cs) (key_for (suc n) ds)))) (suc m) (suc n)
     (λ lt. lt-ltb (suc m) (suc n) lt)
     (λ is. absurd (h is))
     (λ gt. le-ltb (suc m) (suc n) (omega arith))

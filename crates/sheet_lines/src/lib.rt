@@ -5,39 +5,40 @@
 ghost use Rattle.std.specs.Prelude.{◌≡◌};
 ghost use Rattle.laws.specs.Order.{is_less, bytes_order};
 ghost use Rattle.laws.specs.Checks.{first_failing};
+ghost use Rattle.laws.specs.Refusals.{number_in};
 ghost use Rattle.sheet_lines.specs.Lines.{letter_in, head, future, option, stock, price, future_from, option_from, stock_from, price_from, said, rank, is_quoted, own_checks};
 ghost use Rattle.sheet_lines.specs.Facts.{asked_table, place_for, fields_for, group_for, number_for};
 
 use amounts::{IndexLine, StockLine};
 use codes::Class;
+use laws::Refusal;
 use levels::Levels;
 use lines::{Asked, Cell};
 use sheets::{FutureRow, OptionRow, PriceRow, StockRow};
 
 // The line's letter, or 0.
+#[tactic(auto, unfolding(crate::specs::Lines::letter_in))]
 pub fn letter_of(t: &[u8]) -> u8
     ensures { result ≡ letter_in t.now }
 {
     if lines::same_text(t, b"D") {
-        return b'D';
+        b'D'
+    } else if lines::same_text(t, b"F") {
+        b'F'
+    } else if lines::same_text(t, b"O") {
+        b'O'
+    } else if lines::same_text(t, b"S") {
+        b'S'
+    } else if lines::same_text(t, b"Q") {
+        b'Q'
+    } else {
+        0
     }
-    if lines::same_text(t, b"F") {
-        return b'F';
-    }
-    if lines::same_text(t, b"O") {
-        return b'O';
-    }
-    if lines::same_text(t, b"S") {
-        return b'S';
-    }
-    if lines::same_text(t, b"Q") {
-        return b'Q';
-    }
-    0
 }
 
 // What the forms D, F, O, S and Q ask of their fields, one form behind the other; Nothing stands between and behind
 // them.
+#[tactic(auto, unfolding(crate::specs::Facts::asked_table, crate::specs::Lines::head_form, crate::specs::Lines::future_form, crate::specs::Lines::option_form, crate::specs::Lines::stock_form, crate::specs::Lines::price_form))]
 pub fn asked_table() -> [Asked; 34]
     ensures { result ≡ asked_table }
 {
@@ -82,6 +83,7 @@ const ASKED: [Asked; 34] = [
 ];
 
 // Where in that table the form of the letter's line begins.
+#[tactic(auto, unfolding(crate::specs::Facts::place_for))]
 pub fn form_of(letter: u8) -> usize
     ensures { result ≡ place_for letter }
 {
@@ -96,6 +98,7 @@ pub fn form_of(letter: u8) -> usize
 }
 
 // How many fields stand behind the letter; more than there can be where it is no letter of a sheet.
+#[tactic(auto, unfolding(crate::specs::Facts::fields_for))]
 pub fn fields_of(letter: u8) -> usize
     ensures { result ≡ fields_for letter }
 {
@@ -110,6 +113,7 @@ pub fn fields_of(letter: u8) -> usize
 }
 
 // The letter's group, from 1; 0 where it is no letter of a sheet.
+#[tactic(auto, unfolding(crate::specs::Facts::group_for))]
 fn group_of(letter: u8) -> u64
     ensures { result ≡ group_for letter }
 {
@@ -128,30 +132,28 @@ fn levels_of(clearing: Cell, maintenance: Cell, initial: Cell) -> Levels
     ensures { result ≡ record { clearing = clearing.number; maintenance = maintenance.number; initial = initial.number } }
 {
     Levels {
-        clearing: clearing.number as u64,
-        maintenance: maintenance.number as u64,
-        initial: initial.number as u64,
+        clearing: u64::from(clearing.number),
+        maintenance: u64::from(maintenance.number),
+        initial: u64::from(initial.number),
     }
 }
 
+#[tactic(auto, unfolding(crate::specs::Lines::future_from))]
 pub fn future_row(cells: [Cell; 12]) -> FutureRow
     ensures { result ≡ future_from cells }
 {
-    let first = cells[0];
-    let code = first.code;
     FutureRow {
-        code,
+        code: cells[0].code,
         clearing: cells[1].number,
     }
 }
 
+#[tactic(auto, unfolding(crate::specs::Lines::option_from))]
 pub fn option_row(cells: [Cell; 12]) -> OptionRow
     ensures { result ≡ option_from cells }
 {
-    let first = cells[0];
-    let code = first.code;
     OptionRow {
-        code,
+        code: cells[0].code,
         line: IndexLine {
             multiplier: cells[1].number,
             a: levels_of(cells[2], cells[3], cells[4]),
@@ -162,13 +164,12 @@ pub fn option_row(cells: [Cell; 12]) -> OptionRow
     }
 }
 
+#[tactic(auto, unfolding(crate::specs::Lines::stock_from))]
 pub fn stock_row(cells: [Cell; 12]) -> StockRow
     ensures { result ≡ stock_from cells }
 {
-    let first = cells[0];
-    let code = first.code;
     StockRow {
-        code,
+        code: cells[0].code,
         line: StockLine {
             shares: cells[1].number,
             future: cells[2].number,
@@ -180,6 +181,7 @@ pub fn stock_row(cells: [Cell; 12]) -> StockRow
     }
 }
 
+#[tactic(auto, unfolding(crate::specs::Lines::price_from))]
 pub fn price_row(cells: [Cell; 12]) -> PriceRow
     ensures { result ≡ price_from cells }
 {
@@ -189,79 +191,67 @@ pub fn price_row(cells: [Cell; 12]) -> PriceRow
     }
 }
 
-// The number that a line of each letter is refused by, wherever it stands, or 0.
-fn head_number(day: u32) -> u8
-    ensures { result ≡ first_failing (own_checks (head day)) }
+// The checks on a line of each letter, wherever it stands.
+#[tactic(auto, unfolding(laws::specs::Checks::first_failing, crate::specs::Lines::own_checks))]
+fn check_head(day: u32) -> Result<(), Refusal>
+    ensures { number_in result ≡ first_failing (own_checks (head day)) }
 {
-    laws::unless(5, dates::is_day(day), 0)
+    laws::ensure(dates::is_day(day), Refusal::NoSuchDate)
 }
 
-fn future_number(row: FutureRow) -> u8
-    ensures { result ≡ first_failing (own_checks (future row)) }
+#[tactic(auto, unfolding(laws::specs::Checks::first_failing, crate::specs::Lines::own_checks, sheets::specs::Sheet::future_place, sheets::specs::Rows::future_codes))]
+fn check_future(row: FutureRow) -> Result<(), Refusal>
+    ensures { number_in result ≡ first_failing (own_checks (future row)) }
 {
-    let code = row.code;
-    let allowed = sheets::future_place(code) < 8;
-    laws::unless(
-        4,
-        allowed,
-        laws::unless(2, levels::clearing_fits(row.clearing), 0),
-    )
+    laws::ensure(sheets::future_place(row.code) < 8, Refusal::UnknownCode)?;
+    laws::ensure(levels::clearing_fits(row.clearing), Refusal::OutOfRange)
 }
 
-fn option_number(row: OptionRow) -> u8
-    ensures { result ≡ first_failing (own_checks (option row)) }
+#[tactic(auto, unfolding(laws::specs::Checks::first_failing, crate::specs::Lines::own_checks, sheets::specs::Sheet::option_place, sheets::specs::Rows::option_codes))]
+fn check_option(row: OptionRow) -> Result<(), Refusal>
+    ensures { number_in result ≡ first_failing (own_checks (option row)) }
 {
-    let code = row.code;
-    let line = row.line;
-    let allowed = sheets::option_place(code) < 4;
-    laws::unless(4, allowed, laws::unless(2, amounts::index_fits(line), 0))
+    laws::ensure(sheets::option_place(row.code) < 4, Refusal::UnknownCode)?;
+    laws::ensure(amounts::index_fits(row.line), Refusal::OutOfRange)
 }
 
-fn stock_number(row: StockRow) -> u8
-    ensures { result ≡ first_failing (own_checks (stock row)) }
+#[tactic(auto, unfolding(laws::specs::Checks::first_failing, crate::specs::Lines::own_checks))]
+fn check_stock(row: StockRow) -> Result<(), Refusal>
+    ensures { number_in result ≡ first_failing (own_checks (stock row)) }
 {
-    let code = row.code;
-    let line = row.line;
-    laws::unless(
-        4,
-        sheets::two_capitals(code),
-        laws::unless(2, amounts::stock_fits(line), 0),
-    )
+    laws::ensure(sheets::two_capitals(row.code), Refusal::UnknownCode)?;
+    laws::ensure(amounts::stock_fits(row.line), Refusal::OutOfRange)
 }
 
 // Whether a code of this class has Q lines: any option or stock future.
 fn is_quoted(class: Class) -> bool
     ensures { result ≡ is_quoted class }
 {
-    laws::or(codes::is_option_class(class), codes::is_stock_future(class))
+    codes::is_option_class(class) || codes::is_stock_future(class)
 }
 
-fn price_number(row: PriceRow) -> u8
-    ensures { result ≡ first_failing (own_checks (price row)) }
+#[tactic(auto, unfolding(laws::specs::Checks::first_failing, crate::specs::Lines::own_checks, series::specs::Checks::class_of))]
+fn check_price(row: PriceRow) -> Result<(), Refusal>
+    ensures { number_in result ≡ first_failing (own_checks (price row)) }
 {
-    let s = row.series;
-    let code = s.code;
-    let nature = s.nature;
-    let product = codes::product_of(code);
-    let class = product.class;
-    let fits = laws::and(series::nature_suits(class, nature), row.price <= 100000000);
-    laws::unless(
-        4,
-        is_quoted(class),
-        laws::unless(5, dates::is_day(s.date), laws::unless(2, fits, 0)),
-    )
+    let class = codes::product_of(row.series.code).class;
+    laws::ensure(is_quoted(class), Refusal::UnknownCode)?;
+    laws::ensure(dates::is_day(row.series.date), Refusal::NoSuchDate)?;
+    let fits = series::nature_suits(class, row.series.nature) && row.price <= 100000000;
+    laws::ensure(fits, Refusal::OutOfRange)
 }
 
-fn own_number(letter: u8, cells: [Cell; 12]) -> u8
-    ensures { result ≡ first_failing (own_checks (said letter cells)) }
+#[tactic(auto, unfolding(laws::specs::Checks::first_failing, crate::specs::Lines::own_checks, crate::specs::Lines::said))]
+fn check_own(letter: u8, cells: [Cell; 12]) -> Result<(), Refusal>
+    ensures { number_in result ≡ first_failing (own_checks (said letter cells)) }
 {
     match letter {
-        b'D' => head_number(cells[0].number),
-        b'F' => future_number(future_row(cells)),
-        b'O' => option_number(option_row(cells)),
-        b'S' => stock_number(stock_row(cells)),
-        b'Q' => price_number(price_row(cells)),
-        _ => 1,
+        b'D' => check_head(cells[0].number),
+        b'F' => check_future(future_row(cells)),
+        b'O' => check_option(option_row(cells)),
+        b'S' => check_stock(stock_row(cells)),
+        b'Q' => check_price(price_row(cells)),
+        _ => Err(Refusal::Malformed),
     }
 }
 
@@ -269,8 +259,8 @@ fn own_number(letter: u8, cells: [Cell; 12]) -> u8
 fn is_after(last: u8, before: [Cell; 12], letter: u8, cells: [Cell; 12]) -> bool
     ensures { result ≡ is_less (bytes_order (rank (said last before)) (rank (said letter cells))) }
 {
-    let group = group_of(letter);
     let above = group_of(last);
+    let group = group_of(letter);
     if above != group {
         return above < group;
     }
@@ -278,29 +268,17 @@ fn is_after(last: u8, before: [Cell; 12], letter: u8, cells: [Cell; 12]) -> bool
         return false;
     }
     if group == 5 {
-        let p = price_row(before);
-        let q = price_row(cells);
-        let a = p.series;
-        let b = q.series;
-        return laws::is_less(series::compare(a, b));
+        return series::compare(price_row(before).series, price_row(cells).series).is_lt();
     }
-    let a = before[0];
-    let b = cells[0];
-    let code = a.code;
-    let next = b.code;
-    laws::is_less(codes::compare_codes(code, next))
+    before[0].code.cmp(&cells[0].code).is_lt()
 }
 
-// The number that a line of the form is refused by, or 0; `last` and `before` are the letter and the cells of the
-// line before it, or 0.
-pub fn line_number(letter: u8, cells: [Cell; 12], last: u8, before: [Cell; 12]) -> u8
-    ensures { result ≡ number_for letter cells last before }
+// The checks on a line of the form; `last` and `before` are the letter and the cells of the line before it, or 0.
+#[tactic(auto, using(crate::specs::NumberLaws::number_steps, laws::specs::RefusalLaws::or_else_refused))]
+pub fn check(letter: u8, cells: [Cell; 12], last: u8, before: [Cell; 12]) -> Result<(), Refusal>
+    ensures { number_in result ≡ number_for letter cells last before }
 {
-    let opens = laws::or(last != 0, letter == b'D');
-    let order = is_after(last, before, letter, cells);
-    laws::unless(
-        1,
-        opens,
-        laws::or_else(own_number(letter, cells), laws::unless(3, order, 0)),
-    )
+    laws::ensure(last != 0 || letter == b'D', Refusal::Malformed)?;
+    check_own(letter, cells)?;
+    laws::ensure(is_after(last, before, letter, cells), Refusal::OutOfOrder)
 }

@@ -5,3 +5,4 @@ pub mod Seeking
 pub mod SeekLaws
 pub mod TableLaws
 pub mod LookupLaws
+pub mod FaultLaws

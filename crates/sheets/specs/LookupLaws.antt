@@ -1,5 +1,5 @@
 -- Laws of lookups: what is found in the plain fields of a sheet is the row with that key (document 01, "Text").
-use Rattle.std.specs.Prelude.{◌≡◌, Bool, eqb, ltb, get_or, replicate}
+use Rattle.std.specs.Prelude.{◌≡◌, Bool, eqb, ltb, get_or, replicate, Option}
 use Rattle.std.proofs.Math.Path.{refl, sym}
 use Rattle.std.proofs.Common.{ap, ◌∙◌, subst, arith, ltb-true, eqb-true, eq-eqb}
 use Rattle.std.proofs.Math.Bool.{true, false}
@@ -7,7 +7,7 @@ use mathlib.Core.List.{List, [], ◌∷◌, map}
 use Prim.Native.Nat.{ℕ, zero, suc, ◌-◌, ◌<◌, ◌≤◌}
 use Rattle.std.proofs.Math.ListN.{length}
 use Rattle.std.proofs.Math.Seq.{take-append_seam}
-use Rattle.laws.specs.declared.Order.TheVariants.{Less}
+use Rattle.std.specs.declared.cmp.Ordering.TheVariants.{Less}
 use Rattle.laws.specs.TruthLaws.{by_test, clash}
 use Rattle.laws.specs.Bytes.{same_bytes}
 use Rattle.laws.specs.ByteLaws.{are_same}
@@ -23,7 +23,6 @@ use Rattle.series.specs.Checks.{good_series}
 use Rattle.series.specs.Key.{high_key, nature_key, key, series_order}
 use Rattle.series.specs.KeyLaws.{halves_order, same_series_lem}
 use Rattle.amounts.specs.declared.StockLine.{StockLine}
-use Rattle.sheets.specs.declared.Found.{Found}
 use Rattle.sheets.specs.declared.FutureRow.{FutureRow}
 use Rattle.sheets.specs.declared.OptionRow.{OptionRow}
 use Rattle.sheets.specs.declared.StockRow.{StockRow}
@@ -137,7 +136,7 @@ module _ (number line : ℕ) {rows : Rows} (o : Ordered rows) where
   abbrev is_of : Series → PriceRow → Bool
   is_of s r = eqb (key r.series) (key s)
 
-  abbrev price_said : PriceRow → Found
+  abbrev price_said : PriceRow → Option ℕ
   price_said r = found r.price
 
   pub price_found : (s : Series) → good_series s ≡ true → price_on (laid_out number line rows) s ≡ price_in rows.prices s

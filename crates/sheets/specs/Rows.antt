@@ -1,5 +1,5 @@
 -- Document 01, "Text" (sheet): a sheet is its day and its rows, in four lists; a lookup is the row with that key.
-use Rattle.std.specs.Prelude.{Bool, true, false, List, [], ◌∷◌, ℕ, eqb, get_or}
+use Rattle.std.specs.Prelude.{Bool, List, [], ◌∷◌, ℕ, eqb, get_or, Option, None, Some}
 use Rattle.laws.specs.Truth.{both}
 use Rattle.laws.specs.Text.{three}
 use Rattle.laws.specs.Bytes.{same_bytes}
@@ -11,7 +11,6 @@ use Rattle.series.specs.Key.{key}
 use Rattle.levels.specs.Levels.{flat}
 use Rattle.amounts.specs.declared.IndexLine.{IndexLine}
 use Rattle.amounts.specs.declared.StockLine.{StockLine}
-use Rattle.sheets.specs.declared.Found.{Found}
 use Rattle.sheets.specs.declared.FutureRow.{FutureRow}
 use Rattle.sheets.specs.declared.OptionRow.{OptionRow}
 use Rattle.sheets.specs.declared.StockRow.{StockRow}
@@ -41,11 +40,11 @@ unfoldable pub two_capitals : List ℕ → Bool
 two_capitals code = both (names_stock code) (eqb (get_or code 2 0) 0)
 
 -- an amount, or that there is none
-abbrev pub found : ℕ → Found
-found n = record { there = true; amount = n }
+abbrev pub found : ℕ → Option ℕ
+found n = Some n
 
-abbrev pub nothing : Found
-nothing = record { there = false; amount = 0 }
+abbrev pub nothing : Option ℕ
+nothing = None
 
 -- lines of zeros, which say that there is none: no line that stands has a multiplier or shares of 0
 unfoldable pub no_index : IndexLine
@@ -59,7 +58,7 @@ abbrev pub no_price : PriceRow
 no_price = record { series = record { code = 0 ∷ 0 ∷ 0 ∷ []; date = 0; nature = Future }; price = 0 }
 
 -- the clearing amount of a future, the O line of an option, the S line of a stock, the price of a series
-unfoldable pub clearing_in : List FutureRow → List ℕ → Found
+unfoldable pub clearing_in : List FutureRow → List ℕ → Option ℕ
 clearing_in rows code = first_where (λ (r : FutureRow). same_bytes r.code code) (λ (r : FutureRow). found r.clearing) nothing rows
 
 unfoldable pub index_in : List OptionRow → List ℕ → IndexLine
@@ -68,5 +67,5 @@ index_in rows code = first_where (λ (r : OptionRow). same_bytes r.code code) (�
 unfoldable pub stock_in : List StockRow → List ℕ → StockLine
 stock_in rows code = first_where (λ (r : StockRow). same_bytes r.code code) (λ (r : StockRow). r.line) no_stock rows
 
-unfoldable pub price_in : List PriceRow → Series → Found
+unfoldable pub price_in : List PriceRow → Series → Option ℕ
 price_in rows s = first_where (λ (r : PriceRow). eqb (key r.series) (key s)) (λ (r : PriceRow). found r.price) nothing rows

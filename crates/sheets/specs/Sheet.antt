@@ -1,8 +1,10 @@
 -- A sheet as it is held: F, O and S rows at their codes' places, Q rows in order of their keys, which are searched by halving; unused
 -- room is empty (document 01, "Text": "A sheet has at most 65,536 bytes and 1,024 lines"). LookupLaws: what is found there is the row
 -- with that key.
-use Rattle.std.specs.Prelude.{List, [], ◌∷◌, map, ℕ, zero, suc, ◌+◌, ◌-◌, ◌*◌, min, eqb, ltb, get_or, length, take, set, replicate}
+use Rattle.std.specs.Prelude.{List, [], ◌∷◌, map, ℕ, zero, suc, ◌+◌, ◌-◌, ◌*◌, min, eqb, ltb, get_or, length, take, set, replicate, Option, Some, None}
 use Rattle.laws.specs.Truth.{pick}
+use Rattle.laws.specs.declared.Fault.{Fault}
+use Rattle.laws.specs.Refusals.{number_of}
 use Rattle.laws.specs.Text.{byte}
 use Rattle.laws.specs.Bytes.{same_bytes}
 use Rattle.laws.specs.Search.{first_where}
@@ -13,11 +15,44 @@ use Rattle.series.specs.declared.Series.{Series}
 use Rattle.series.specs.Key.{high_key, nature_key}
 use Rattle.amounts.specs.declared.IndexLine.{IndexLine}
 use Rattle.amounts.specs.declared.StockLine.{StockLine}
-use Rattle.sheets.specs.declared.Found.{Found}
 use Rattle.sheets.specs.declared.StockRow.{StockRow}
 use Rattle.sheets.specs.declared.PriceRow.{PriceRow}
-use Rattle.sheets.specs.declared.Sheet.{Sheet}
+use Rattle.sheets.specs.declared.Sheet as held
 use Rattle.sheets.specs.Rows.{Rows, future_codes, option_codes, two_capitals, found, nothing, no_index, no_stock, no_price, clearing_in, index_in}
+
+-- What a text reads as: its number and line, 0 and 0 where it is a sheet; the day; the rows, each at its place.
+pub record Sheet : Type 0 where
+  pub number : ℕ
+  pub line : ℕ
+  pub day : ℕ
+  pub futures : List (Option ℕ)
+  pub options : List IndexLine
+  pub stocks : List StockLine
+  pub prices : List PriceRow
+  pub quoted : ℕ
+
+-- the number and the line of a fault, 0 and 0 where there is none
+abbrev pub fault_number : Option Fault → ℕ
+fault_number None = 0
+fault_number (Some f) = number_of f.refusal
+
+abbrev pub fault_line : Option Fault → ℕ
+fault_line None = 0
+fault_line (Some f) = f.line
+
+-- what a sheet stands for
+abbrev pub sheet_in : held.Sheet → Sheet
+sheet_in s =
+    record {
+      number = fault_number s.fault;
+      line = fault_line s.fault;
+      day = s.day;
+      futures = s.futures;
+      options = s.options;
+      stocks = s.stocks;
+      prices = s.prices;
+      quoted = s.quoted;
+    }
 
 -- how many codes stand before this one; all of them where it is none of them
 unfoldable pub place_in : List (List ℕ) → List ℕ → ℕ
@@ -55,7 +90,7 @@ abbrev pub row_key : PriceRow → List ℕ
 row_key r = high_key r.series ∷ nature_key r.series.nature ∷ []
 
 -- the price that so many steps of halving find of the key k among the rows from low to high: the half that cannot hold it is given up
-unfoldable pub sought_in : List PriceRow → List ℕ → ℕ → ℕ → ℕ → Found
+unfoldable pub sought_in : List PriceRow → List ℕ → ℕ → ℕ → ℕ → Option ℕ
 sought_in rows k zero low high = nothing
 sought_in rows k (suc steps) low high =
     pick (ltb low high)
@@ -66,7 +101,7 @@ sought_in rows k (suc steps) low high =
     nothing
 
 -- the price of the key k among rows; there are no more steps than rows
-unfoldable pub price_among : List PriceRow → List ℕ → Found
+unfoldable pub price_among : List PriceRow → List ℕ → Option ℕ
 price_among rows k = sought_in rows k (length rows) 0 (length rows)
 
 -- the first n places of a list, each filled by what is said of it
@@ -75,7 +110,7 @@ filled says zero l = l
 filled says (suc n) l = filled says n (set l n (says n))
 
 -- the prices of so many keys, at most 128, among the first `count` rows
-unfoldable pub prices_at : List PriceRow → ℕ → List ℕ → List ℕ → ℕ → List Found
+unfoldable pub prices_at : List PriceRow → ℕ → List ℕ → List ℕ → ℕ → List (Option ℕ)
 prices_at rows count highs lows held = filled (λ (i : ℕ). price_among (take count rows) (key_at highs lows i)) (min held 128) (replicate 128 nothing)
 
 -- a number and a line, and these rows
@@ -93,7 +128,7 @@ laid_out number line rows =
     }
 
 -- The four lookups on a sheet in plain fields.
-unfoldable pub clearing_on : Sheet → List ℕ → Found
+unfoldable pub clearing_on : Sheet → List ℕ → Option ℕ
 clearing_on sheet code = get_or sheet.futures (future_place code) nothing
 
 unfoldable pub index_on : Sheet → List ℕ → IndexLine
@@ -102,5 +137,5 @@ index_on sheet code = get_or sheet.options (option_place code) no_index
 unfoldable pub stock_on : Sheet → List ℕ → StockLine
 stock_on sheet code = get_or sheet.stocks (stock_place code) no_stock
 
-unfoldable pub price_on : Sheet → Series → Found
+unfoldable pub price_on : Sheet → Series → Option ℕ
 price_on sheet s = price_among (take sheet.quoted sheet.prices) (high_key s ∷ nature_key s.nature ∷ [])

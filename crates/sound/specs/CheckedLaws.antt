@@ -22,10 +22,8 @@ use Rattle.rules.specs.Rules.{account_fits, is_identity, good_holding, good_pair
 use Rattle.rules.specs.Facts.{SoundRows}
 use Rattle.rules.specs.RuleLaws.{rows_are, rows_back, sound_is, sound_back}
 use Rattle.sound.specs.declared.Checked.{Checked}
-use Rattle.sound.specs.declared.Keys.{Keys}
-use Rattle.sound.specs.declared.Places.{Places}
 use Rattle.sound.specs.Checked.{not_sound, checked_as, walk_of, not_walked, walked_book}
-use Rattle.sound.specs.Walk.{no_row, Keyed, KeysAre, Placed, PlacesAre, RoomIs, Walkable}
+use Rattle.sound.specs.Walk.{Keys, Places, no_row, Keyed, KeysAre, Placed, PlacesAre, RoomIs, Walkable}
 use Rattle.sound.specs.KeyedLaws.{keyed_columns}
 use Rattle.sound.specs.LegLaws.{pairs_all_good, pairs_in_order, first_row, second_row, firsts_placed, seconds_placed, pairs_found}
 

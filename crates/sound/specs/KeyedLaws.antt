@@ -1,11 +1,11 @@
 -- Laws of the walk over the rows of a book: each row is good and in order, and the keys of the rows, half by half, rise.
-use Rattle.std.specs.Prelude.{◌≡◌, refl, Bool, true, false, not, List, [], ◌∷◌, ℕ, zero, suc, ◌+◌, ◌-◌, ◌<◌, ◌≤◌, eqb, ltb, get_or, take, set, replicate}
+use Rattle.std.specs.Prelude.{◌≡◌, refl, Bool, true, false, not, List, [], ◌∷◌, ℕ, zero, suc, ◌+◌, ◌-◌, ◌<◌, ◌≤◌, eqb, ltb, get_or, take, set, replicate, Option, None, Some}
 use Rattle.std.proofs.Common.{ap, ◌∙◌, subst, arith, eqb-true, ne_eqb, ltb-true, length-set, get_or-set_same, get_or-set_other}
 use Rattle.std.proofs.Math.Path.{sym}
 use Rattle.std.proofs.Math.Decide.{dec_lt}
 use Rattle.std.proofs.Math.ListN.{length, length-take}
 use Rattle.std.proofs.Math.Seq.{get_or-take}
-use Rattle.laws.specs.declared.Order.TheVariants.{Less}
+use Rattle.std.specs.declared.cmp.Ordering.TheVariants.{Less}
 use Rattle.laws.specs.Truth.{both, either, within}
 use Rattle.laws.specs.TruthLaws.{both_true, both_hold, clash, passed}
 use Rattle.laws.specs.Bytes.{same_bytes}
@@ -33,7 +33,7 @@ use Rattle.rows.specs.RowLaws.{rank_order}
 use Rattle.rules.specs.Rules.{good_lots, good_holding}
 use Rattle.halving.specs.Halving.{key_at, Rising}
 use Rattle.sound.specs.Checked.{column, high_of, low_of}
-use Rattle.sound.specs.Walk.{no_row, halves, alike, Keyed, KeysAre}
+use Rattle.sound.specs.Walk.{no_row, halves, alike, keys_as, Keyed, KeysAre}
 use Rattle.sound.specs.ColumnLaws.{column_none, column_long, column_at, column_next}
 use Rattle.sound.specs.StepLaws.{sound_from, after_last, sound_start, sound_end, bad_row, turned_row, next_row}
 
@@ -137,6 +137,15 @@ testing_starts rows held few =
       lows_room = refl;
       goods = λ k lt. absurd (omega arith);
     }
+
+-- Rows that break a rule have no keys.
+pub no_keys : {rows : List Holding} {held : ℕ} {highs lows : List ℕ} → KeysAre rows held (record { sound = false; highs = highs; lows = lows }) → KeysAre rows held (keys_as None)
+no_keys k = record { tested = k.tested; highs_are = λ f. absurd (clash f refl); lows_are = λ f. absurd (clash f refl) }
+
+-- An answer that is not there says that the rows are not sound.
+pub keys_gone : (o : Option (List ℕ × List ℕ)) → ((k : List ℕ × List ℕ) → o ≡ Some k → ⊥) → not (keys_as o).sound ≡ true
+keys_gone (Some k) n = absurd (n k refl)
+keys_gone None n = refl
 
 module _ {rows : List Holding} {held i : ℕ} {highs lows : List ℕ} (t : Testing rows held (rows_test rows held) i highs lows) where
   pub last_good : {b : ℕ} → b ≡ i - 1 → 0 < i → good_series (get_or rows b no_row).series ≡ true

@@ -1,5 +1,5 @@
 -- Laws of the walk over the pairs of a book: each may stand, its legs are found among the rows by halving, and it is after the pair before it.
-use Rattle.std.specs.Prelude.{◌≡◌, Bool, true, false, not, eqb, ltb, length, take, set, replicate}
+use Rattle.std.specs.Prelude.{◌≡◌, Bool, true, false, not, eqb, ltb, length, take, set, replicate, Option, None, Some}
 use Rattle.std.proofs.Math.Path.{refl, ap, sym}
 use Rattle.std.proofs.Common.{◌∙◌, subst, arith, length-take, length-set, get_or-take}
 use mathlib.Core.List.{List, [], ◌∷◌}
@@ -7,8 +7,8 @@ use Prim.Native.Nat.{ℕ, zero, suc, ◌+◌, ◌-◌, ◌*◌, ◌<◌, ◌≤�
 use Rattle.std.proofs.Math.Decide.{dec_lt}
 use borrow.Author.Tests.{ne_eqb, lt-ltb, ltb-true}
 use Rattle.std.proofs.Math.ListN.{get_or}
-use Rattle.laws.specs.declared.Order.{Order}
-use Rattle.laws.specs.declared.Order.TheVariants.{Less}
+use Rattle.std.specs.declared.cmp.Ordering.{Ordering}
+use Rattle.std.specs.declared.cmp.Ordering.TheVariants.{Less}
 use Rattle.laws.specs.Truth.{both, either}
 use Rattle.laws.specs.TruthLaws.{both_true, both_hold, by_test, clash, passed}
 use Rattle.laws.specs.Search.{every_line}
@@ -34,9 +34,8 @@ use Rattle.rules.specs.Facts.{Counts, GoodPair}
 use Rattle.rules.specs.RuleLaws.{holding_is, counts_are, pair_is}
 use Rattle.halving.specs.Halving.{key_at, find_in, Rising}
 use Rattle.halving.specs.HalvingLaws.{find_at, find_says}
-use Rattle.sound.specs.declared.Legs.{Legs}
 use Rattle.sound.specs.Checked.{column, place_in}
-use Rattle.sound.specs.Walk.{no_row, no_pair, halves, standing, Keyed, LegKey, row_of, legs_found, row_rank, LegRow, LegRows, Placed, PlacesAre}
+use Rattle.sound.specs.Walk.{Legs, legs_as, places_as, no_row, no_pair, halves, standing, Keyed, LegKey, row_of, legs_found, row_rank, LegRow, LegRows, Placed, PlacesAre}
 use Rattle.sound.specs.StepLaws.{sound_from, after_last, sound_start, sound_end, bad_row, turned_row, next_row}
 use Rattle.sound.specs.ColumnLaws.{column_none, column_at, column_next, column_same, place_row}
 use Rattle.sound.specs.KeyedLaws.{good_at, rising_keys}
@@ -79,6 +78,30 @@ both_sought p is holds a b e =
       first_fits = λ k. a.fits;
       second_fits = λ k. b.fits;
     }
+
+-- A leg that is not held leaves a pair without rows.
+pub first_lost : {highs lows : List ℕ} {held : ℕ} {x : Bool} {first second : ℕ} (p : Pair) → x ≡ standing p → not x ≡ false → LegRow highs lows held p.first first → LegRow highs lows held p.second second → both (ltb first held) (ltb second held) ≡ false → LegRows highs lows held p (legs_as None)
+first_lost p is holds a b e =
+    let l = both_sought p is holds a b (sym e) in
+    record {
+      kept_is = l.kept_is;
+      first_is = λ k. absurd (clash k refl);
+      second_is = λ k. absurd (clash k refl);
+      first_fits = λ k. absurd (clash k refl);
+      second_fits = λ k. absurd (clash k refl);
+    }
+
+-- An answer that is not there says that the legs are not kept, and one of all pairs that they are not sound.
+pub legs_gone : (o : Option (ℕ × ℕ)) → ((l : ℕ × ℕ) → o ≡ Some l → ⊥) → not (legs_as o).kept ≡ true
+legs_gone (Some l) n = absurd (n l refl)
+legs_gone None n = refl
+
+pub places_gone : (o : Option (List ℕ × List ℕ)) → ((p : List ℕ × List ℕ) → o ≡ Some p → ⊥) → not (places_as o).sound ≡ true
+places_gone (Some p) n = absurd (n p refl)
+places_gone None n = refl
+
+pub no_places : {highs lows : List ℕ} {held : ℕ} {pairs : List Pair} {paired : ℕ} {firsts seconds : List ℕ} → PlacesAre highs lows held pairs paired (record { sound = false; firsts = firsts; seconds = seconds }) → PlacesAre highs lows held pairs paired (places_as None)
+no_places p = record { tested = p.tested; placed = λ f. absurd (clash f refl) }
 
 -- The walk has come to the pair i; w is what it will tell.
 pub record Placing (highs lows : List ℕ) (held : ℕ) (pairs : List Pair) (paired : ℕ) (w : Bool) (i : ℕ) (firsts seconds : List ℕ) : Type 0 where
@@ -289,7 +312,7 @@ module _ {rows : List Holding} {held : ℕ} {highs lows : List ℕ} (keyed : Key
 
   leg_order : (a b : Series) → row_of highs lows held a < held → row_of highs lows held b < held → order_of (row_of highs lows held a) (row_of highs lows held b) ≡ order_of (key a) (key b)
   leg_order a b p q =
-      split (λ (o : Order). o ≡ order_of (key a) (key b)) (row_of highs lows held a) (row_of highs lows held b)
+      split (λ (o : Ordering). o ≡ order_of (key a) (key b)) (row_of highs lows held a) (row_of highs lows held b)
       (λ lt. is_less_lem (legs_before a b p q lt))
       (λ e. is_same_lem (one_key a b (sym (high_found a p) ∙ ap (λ (r : ℕ). high_key (get_or rows r no_row).series) e ∙ high_found b q) (sym (low_found a p) ∙ ap (λ (r : ℕ). nature_key (get_or rows r no_row).series.nature) e ∙ low_found b q)))
       (λ gt. is_more (legs_before b a q p gt))

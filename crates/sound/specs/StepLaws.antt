@@ -1,5 +1,5 @@
 -- Laws of one walk over the first n rows of an array that tests each row, and its order with the row before it.
-use Rattle.std.specs.Prelude.{◌≡◌, Bool, not, List, eqb, ltb, get_or, length, take}
+use Rattle.std.specs.Prelude.{◌≡◌, Bool, not, List, eqb, ltb, get_or, length, take, Some}
 use Rattle.std.proofs.Math.Path.{refl, ap}
 use Rattle.std.proofs.Common.{◌∙◌, arith}
 use Rattle.std.proofs.Math.Bool.{true, false}
@@ -8,8 +8,9 @@ use borrow.Author.Tests.{ne_eqb, lt-ltb, le-ltb}
 use Rattle.laws.specs.Truth.{pick, both, either}
 use Rattle.laws.specs.TruthLaws.{by_test, failed, passed}
 use Rattle.laws.specs.Search.{every_line}
-use Rattle.laws.specs.declared.Order.{Order}
-use Rattle.laws.specs.declared.Order.TheVariants.{Same}
+use Rattle.std.specs.declared.cmp.Ordering.{Ordering}
+use Rattle.std.specs.declared.cmp.Ordering.TheVariants.{Less, Equal, Greater}
+use Rattle.std.specs.Ordering.{is_lt, is_some_and, partial_ordering_then}
 use Rattle.laws.specs.Order.{order_of, is_less, then_by, bytes_order}
 use Rattle.laws.specs.OrderLaws.{split}
 use Rattle.lists.specs.Sorted.{ascending}
@@ -70,8 +71,22 @@ module _ {A : Type 0} (test : A → Bool) (rank : A → List ℕ) (rows : List A
       next_row ok = rw (every_yes test rows n i d lt le is good, order_step i lt le, passed after ok)
 
 -- The order of two ranks is that of their first numbers that differ, or of their last.
-pub differ_less : {a b : ℕ} (o : Order) → (a ≡ b → ⊥) → ltb a b ≡ is_less (then_by (order_of a b) o)
-differ_less {a} {b} o h = split (λ (p : Order). ltb a b ≡ is_less (then_by p o)) a b (λ lt. lt-ltb a b lt) (λ e. absurd (h e)) (λ gt. le-ltb a b (omega arith))
+pub differ_less : {a b : ℕ} (o : Ordering) → (a ≡ b → ⊥) → ltb a b ≡ is_less (then_by (order_of a b) o)
+differ_less {a} {b} o h = split (λ (p : Ordering). ltb a b ≡ is_less (then_by p o)) a b (λ lt. lt-ltb a b lt) (λ e. absurd (h e)) (λ gt. le-ltb a b (omega arith))
 
-pub last_less : (a b : ℕ) → ltb a b ≡ is_less (then_by (order_of a b) Same)
-last_less a b = split (λ (p : Order). ltb a b ≡ is_less (then_by p Same)) a b (λ lt. lt-ltb a b lt) (λ e. le-ltb a b (omega arith)) (λ gt. le-ltb a b (omega arith))
+pub last_less : (a b : ℕ) → ltb a b ≡ is_less (then_by (order_of a b) Equal)
+last_less a b = split (λ (p : Ordering). ltb a b ≡ is_less (then_by p Equal)) a b (λ lt. lt-ltb a b lt) (λ e. le-ltb a b (omega arith)) (λ gt. le-ltb a b (omega arith))
+
+-- Five orders, one behind the other, as `<` takes them.
+pub five_before : (o p q r s : Ordering) → is_some_and is_lt (partial_ordering_then (partial_ordering_then (partial_ordering_then (partial_ordering_then (Some o) (Some p)) (Some q)) (Some r)) (Some s)) ≡ is_less (then_by o (then_by p (then_by q (then_by r (then_by s Equal)))))
+five_before Less p q r s = refl
+five_before Greater p q r s = refl
+five_before Equal Less q r s = refl
+five_before Equal Greater q r s = refl
+five_before Equal Equal Less r s = refl
+five_before Equal Equal Greater r s = refl
+five_before Equal Equal Equal Less s = refl
+five_before Equal Equal Equal Greater s = refl
+five_before Equal Equal Equal Equal Less = refl
+five_before Equal Equal Equal Equal Equal = refl
+five_before Equal Equal Equal Equal Greater = refl

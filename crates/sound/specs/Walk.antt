@@ -1,6 +1,6 @@
 -- What the parts of a book's check ask and answer: rows that are tested, their keys, and the rows of a pair's legs, from which it takes its
 -- lots (document 01, "The book": "Tied lots of a series and side are the sum over pairs").
-use Rattle.std.specs.Prelude.{◌≡◌, Bool, true, not, List, [], ◌∷◌, ℕ, ◌<◌, ◌≤◌, get_or, length, take, drop, eqb, leb, ltb}
+use Rattle.std.specs.Prelude.{◌≡◌, Bool, true, false, not, List, [], ◌∷◌, ℕ, ◌<◌, ◌≤◌, get_or, length, take, drop, eqb, leb, ltb, Option, None, Some}
 use Rattle.laws.specs.Truth.{both, within}
 use Rattle.laws.specs.Bytes.{same_bytes}
 use Rattle.laws.specs.Search.{every_line}
@@ -18,10 +18,38 @@ use Rattle.rows.specs.Rows.{holding_rank, pair_rank, empty_holding, empty_pair, 
 use Rattle.rules.specs.Rules.{counts_fit, good_holding, good_pair}
 use Rattle.rules.specs.Facts.{SoundRows}
 use Rattle.halving.specs.Halving.{find_in}
-use Rattle.sound.specs.declared.Keys.{Keys}
-use Rattle.sound.specs.declared.Legs.{Legs}
-use Rattle.sound.specs.declared.Places.{Places}
 use Rattle.sound.specs.Checked.{column, high_of, low_of}
+
+-- Whether the rows are good and in order, and their keys, half by half.
+pub record Keys : Type 0 where
+  pub sound : Bool
+  pub highs : List ℕ
+  pub lows : List ℕ
+
+-- Whether a pair may stand and both its legs are held, and the rows of its legs.
+pub record Legs : Type 0 where
+  pub kept : Bool
+  pub first : ℕ
+  pub second : ℕ
+
+-- Whether every pair may stand, is held and is in order, and the rows of their legs.
+pub record Places : Type 0 where
+  pub sound : Bool
+  pub firsts : List ℕ
+  pub seconds : List ℕ
+
+-- what an answer says of them: none is that of rows or pairs that break a rule
+abbrev pub keys_as : Option (List ℕ × List ℕ) → Keys
+keys_as (Some k) = record { sound = true; highs = k.0; lows = k.1 }
+keys_as None = record { sound = false; highs = []; lows = [] }
+
+abbrev pub legs_as : Option (ℕ × ℕ) → Legs
+legs_as (Some l) = record { kept = true; first = l.0; second = l.1 }
+legs_as None = record { kept = false; first = 0; second = 0 }
+
+abbrev pub places_as : Option (List ℕ × List ℕ) → Places
+places_as (Some p) = record { sound = true; firsts = p.0; seconds = p.1 }
+places_as None = record { sound = false; firsts = []; seconds = [] }
 
 -- what rows behind the end would be
 abbrev pub no_row : Holding

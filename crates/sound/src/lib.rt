@@ -10,7 +10,7 @@ ghost use Rattle.series.specs.Checks.{good_series};
 ghost use Rattle.rules.specs.Lots.{covered};
 ghost use Rattle.rules.specs.Rules.{account_fits, is_identity, good_holding, sound_book};
 ghost use Rattle.sound.specs.Checked.{not_sound, checked_as, checked_book, not_walked, walked_book};
-ghost use Rattle.sound.specs.Walk.{alike, standing, KeysAre, LegKey, LegRow, LegRows, PlacesAre, RoomIs, Walkable};
+ghost use Rattle.sound.specs.Walk.{alike, standing, keys_as, legs_as, places_as, KeysAre, LegKey, LegRow, LegRows, PlacesAre, RoomIs, Walkable};
 
 use rows::{Book, Holding, Pair};
 use series::{Halves, Series};
@@ -33,61 +33,14 @@ pub struct Walked {
     pub seconds: [usize; 128],
 }
 
-// Whether the rows are good and in order, and their keys, half by half.
-#[derive(Clone, Copy)]
-struct Keys {
-    sound: bool,
-    highs: [u64; 128],
-    lows: [u64; 128],
-}
-
-// Whether a pair may stand and both its legs are held, and the rows of its legs.
-#[derive(Clone, Copy)]
-struct Legs {
-    kept: bool,
-    first: usize,
-    second: usize,
-}
-
-// Whether every pair may stand, is held and is in order, and the rows of their legs.
-#[derive(Clone, Copy)]
-struct Places {
-    sound: bool,
-    firsts: [usize; 128],
-    seconds: [usize; 128],
-}
-
-fn wide8(x: u8) -> u64
-    ensures { (result ≡ x) × (result < 256) }
-{
-    x as u64
-}
-
-fn wide32(x: u32) -> u64
-    ensures { (result ≡ x) × (result < 4294967296) }
-{
-    x as u64
-}
-
-// The row before a row, or the first.
-fn before(i: usize) -> usize
-    ensures { result ≡ i - 1 }
-{
-    if i == 0 { 0 } else { i - 1 }
-}
-
 // Whether two series are options of one code and date, the second with its strike in range: then it is good if the first is.
+#[tactic(auto, using(laws::specs::ByteLaws::as_pointwise, laws::specs::TruthLaws::both_first), unfolding(crate::specs::Walk::alike))]
 fn is_alike(a: Series, b: Series) -> bool
     ensures { result ≡ alike a b }
 {
-    let x = a.code;
-    let y = b.code;
-    let m = a.nature;
-    let n = b.nature;
-    let one = laws::and(codes::same_code(x, y), a.date == b.date);
-    let options = laws::and(!series::is_future(m), !series::is_future(n));
-    let fits = laws::in_range(1, 100000000, series::strike_of(n));
-    laws::and(one, laws::and(options, fits))
+    let one = a.code == b.code && a.date == b.date;
+    let options = !series::is_future(a.nature) && !series::is_future(b.nature);
+    one && options && laws::in_range(1, 100000000, series::strike_of(b.nature))
 }
 
 // Whether the row i is good, where the row before it is.
@@ -95,77 +48,51 @@ fn good_row(i: usize, last: Holding, h: Holding) -> bool
     requires { 0 < i → good_series last.series ≡ true }
     ensures { result ≡ good_holding h }
 {
-    let a = last.series;
-    let s = h.series;
-    if laws::and(0 < i, is_alike(a, s)) {
+    if 0 < i && is_alike(last.series, h.series) {
         return rules::lots_good(h);
     }
     rules::good_holding(h)
 }
 
 // Whether the row i of a key stands after the row before it.
+#[tactic(auto, using(halving::specs::HalvingLaws::pair_before))]
 fn key_rises(i: usize, high: u64, low: u64, k: Halves) -> bool
     ensures { result ≡ either (eqb i 0) (is_less (bytes_order (high ∷ low ∷ []) (k.high ∷ k.low ∷ []))) }
 {
-    if i == 0 {
-        return true;
-    }
-    if high != k.high {
-        return high < k.high;
-    }
-    low < k.low
+    i == 0 || (high, low) < (k.high, k.low)
 }
 
 // One walk over the rows: each is good, and its key is after that of the row before it.
-fn keys_of(rows: [Holding; 128], held: usize) -> Keys
+fn keys_of(rows: [Holding; 128], held: usize) -> Option<([u64; 128], [u64; 128])>
     requires { held ≤ 128 }
-    ensures { KeysAre rows held result }
+    ensures { KeysAre rows held (keys_as result) }
 {
     let mut highs = [0u64; 128];
     let mut lows = [0u64; 128];
-    let mut i: usize = 0;
-    while i < held {
-        let b = before(i);
-        let last = rows[b];
-        let h = rows[i];
-        if !good_row(i, last, h) {
-            return Keys {
-                sound: false,
-                highs,
-                lows,
-            };
+    for i in 0..held {
+        let b = i.saturating_sub(1);
+        if !good_row(i, rows[b], rows[i]) {
+            return None;
         }
-        let s = h.series;
-        let k = series::halves_of(s);
+        let k = series::halves_of(rows[i].series);
         if !key_rises(i, highs[b], lows[b], k) {
-            return Keys {
-                sound: false,
-                highs,
-                lows,
-            };
+            return None;
         }
         highs[i] = k.high;
         lows[i] = k.low;
-        i += 1;
     }
-    Keys {
-        sound: true,
-        highs,
-        lows,
-    }
+    Some((highs, lows))
 }
 
 // The key of a leg, half by half.
 fn leg_key(s: Series) -> Halves
     ensures { LegKey s result }
 {
-    let c = s.code;
-    let n = s.nature;
-    let code = (wide8(c[0]) * 256 + wide8(c[1])) * 256 + wide8(c[2]);
-    let letter = wide8(series::letter_of(n));
+    let code = (u64::from(s.code[0]) * 256 + u64::from(s.code[1])) * 256 + u64::from(s.code[2]);
     Halves {
-        high: code * 4294967296 + wide32(s.date),
-        low: letter * 4294967296 + wide32(series::strike_of(n)),
+        high: code * 4294967296 + u64::from(s.date),
+        low: u64::from(series::letter_of(s.nature)) * 4294967296
+            + u64::from(series::strike_of(s.nature)),
     }
 }
 
@@ -178,70 +105,34 @@ fn row_of<'a>(highs: &'a [u64], lows: &'a [u64], held: usize, s: Series) -> usiz
 }
 
 // Whether a pair's counts are in range and its kind's rule is met.
+#[tactic(auto, unfolding(crate::specs::Walk::standing))]
 fn stands(p: Pair) -> bool
     ensures { result ≡ standing p }
 {
-    let a = p.first;
-    let b = p.second;
-    if !rules::counts_fit(p.r1, p.r2, p.units) {
-        return false;
-    }
-    pairing::may_stand(p.kind, a, b, p.r1, p.r2)
+    rules::counts_fit(p.r1, p.r2, p.units)
+        && pairing::may_stand(p.kind, p.first, p.second, p.r1, p.r2)
 }
 
-// The rows of a pair's legs.
-fn legs_of<'a>(highs: &'a [u64], lows: &'a [u64], held: usize, p: Pair) -> Legs
-    ensures { LegRows highs.now lows.now held p result }
+// The rows of a pair's legs, where it may stand and both are held.
+fn legs_of<'a>(highs: &'a [u64], lows: &'a [u64], held: usize, p: Pair) -> Option<(usize, usize)>
+    ensures { LegRows highs.now lows.now held p (legs_as result) }
 {
-    let a = p.first;
-    let b = p.second;
     if !stands(p) {
-        return Legs {
-            kept: false,
-            first: 0,
-            second: 0,
-        };
+        return None;
     }
-    let first = row_of(highs, lows, held, a);
-    let second = row_of(highs, lows, held, b);
-    Legs {
-        kept: laws::and(first < held, second < held),
-        first,
-        second,
+    let first = row_of(highs, lows, held, p.first);
+    let second = row_of(highs, lows, held, p.second);
+    if held <= first || held <= second {
+        return None;
     }
+    Some((first, second))
 }
 
 // Whether the pair i stands after the pair before it: by kind, the rows of its legs, r1, r2.
-fn pair_rises(i: usize, p: Pair, x: usize, y: usize, q: Pair, at: Legs) -> bool
-    ensures { result ≡ either (eqb i 0) (is_less (bytes_order (p.kind ∷ x ∷ y ∷ p.r1 ∷ p.r2 ∷ []) (q.kind ∷ at.first ∷ at.second ∷ q.r1 ∷ q.r2 ∷ []))) }
+fn pair_rises(i: usize, p: Pair, x: (usize, usize), q: Pair, y: (usize, usize)) -> bool
+    ensures { result ≡ either (eqb i 0) (is_less (bytes_order (p.kind ∷ x.0 ∷ x.1 ∷ p.r1 ∷ p.r2 ∷ []) (q.kind ∷ y.0 ∷ y.1 ∷ q.r1 ∷ q.r2 ∷ []))) }
 {
-    if i == 0 {
-        return true;
-    }
-    if p.kind != q.kind {
-        return p.kind < q.kind;
-    }
-    if x != at.first {
-        return x < at.first;
-    }
-    if y != at.second {
-        return y < at.second;
-    }
-    if p.r1 != q.r1 {
-        return p.r1 < q.r1;
-    }
-    p.r2 < q.r2
-}
-
-// The answer where a pair may not stand, has no rows or is out of order.
-fn no_places(firsts: [usize; 128], seconds: [usize; 128]) -> Places
-    ensures { result ≡ record { sound = false; firsts = firsts; seconds = seconds } }
-{
-    Places {
-        sound: false,
-        firsts,
-        seconds,
-    }
+    i == 0 || (p.kind, x.0, x.1, p.r1, p.r2) < (q.kind, y.0, y.1, q.r1, q.r2)
 }
 
 // One walk over the pairs: each may stand, has its rows, and is after the pair before it.
@@ -251,43 +142,34 @@ fn places_of<'a>(
     held: usize,
     pairs: [Pair; 128],
     paired: usize,
-) -> Places
+) -> Option<([usize; 128], [usize; 128])>
     requires { paired ≤ 128 }
-    ensures { PlacesAre highs.now lows.now held pairs paired result }
+    ensures { PlacesAre highs.now lows.now held pairs paired (places_as result) }
 {
     let mut firsts = [0usize; 128];
     let mut seconds = [0usize; 128];
-    let mut i: usize = 0;
-    while i < paired {
-        let b = before(i);
-        let last = pairs[b];
-        let p = pairs[i];
-        let at = legs_of(highs, lows, held, p);
-        if !at.kept {
-            return no_places(firsts, seconds);
+    for i in 0..paired {
+        let b = i.saturating_sub(1);
+        let Some(legs) = legs_of(highs, lows, held, pairs[i]) else {
+            return None;
+        };
+        if !pair_rises(i, pairs[b], (firsts[b], seconds[b]), pairs[i], legs) {
+            return None;
         }
-        if !pair_rises(i, last, firsts[b], seconds[b], p, at) {
-            return no_places(firsts, seconds);
-        }
-        firsts[i] = at.first;
-        seconds[i] = at.second;
-        i += 1;
+        firsts[i] = legs.0;
+        seconds[i] = legs.1;
     }
-    Places {
-        sound: true,
-        firsts,
-        seconds,
-    }
+    Some((firsts, seconds))
 }
 
 // The answer for a book that breaks a rule.
+#[tactic(auto, unfolding(crate::specs::Checked::not_sound))]
 fn unsound() -> Checked
     ensures { result ≡ not_sound }
 {
-    let h = rows::empty_holding();
     Checked {
         sound: false,
-        free: [h; 128],
+        free: [rows::empty_holding(); 128],
     }
 }
 
@@ -304,29 +186,22 @@ fn free_lots(
     ensures { result ≡ checked_as (covered (take held rows) (take paired pairs)) (take held rows) (take paired pairs) }
 {
     let mut free = rows;
-    let mut j: usize = 0;
-    while j < paired {
+    for j in 0..paired {
         let p = pairs[j];
-        let b = p.second;
         let x = firsts[j];
-        let h = free[x];
-        let s = pairing::first_side(p.kind, b);
+        let s = pairing::first_side(p.kind, p.second);
         let m = p.r1 * p.units;
-        if rows::lots_on(s, h) < m {
+        if rows::lots_on(s, free[x]) < m {
             return unsound();
         }
-        let less = rows::lessen(s, m, h);
-        free[x] = less;
+        free[x] = rows::lessen(s, m, free[x]);
         let y = seconds[j];
-        let k = free[y];
         let t = pairing::second_side(p.kind);
         let n = p.r2 * p.units;
-        if rows::lots_on(t, k) < n {
+        if rows::lots_on(t, free[y]) < n {
             return unsound();
         }
-        let rest = rows::lessen(t, n, k);
-        free[y] = rest;
-        j += 1;
+        free[y] = rows::lessen(t, n, free[y]);
     }
     Checked { sound: true, free }
 }
@@ -335,10 +210,7 @@ fn free_lots(
 fn head_sound(account: u32, identity: u8, day: u32) -> bool
     ensures { result ≡ both (account_fits account) (both (is_identity identity) (is_day day)) }
 {
-    laws::and(
-        rules::account_fits(account),
-        laws::and(rules::is_identity(identity), dates::is_day(day)),
-    )
+    rules::account_fits(account) && rules::is_identity(identity) && dates::is_day(day)
 }
 
 // Whether there is room for the rows, and the room behind them is empty.
@@ -358,13 +230,13 @@ fn room_sound(holdings: [Holding; 128], held: usize, pairs: [Pair; 128], paired:
 }
 
 // The answer of the whole walk for a book that breaks a rule.
+#[tactic(auto, unfolding(crate::specs::Checked::not_walked))]
 fn not_walked() -> Walked
     ensures { result ≡ not_walked }
 {
-    let h = rows::empty_holding();
     Walked {
         sound: false,
-        free: [h; 128],
+        free: [rows::empty_holding(); 128],
         highs: [0u64; 128],
         lows: [0u64; 128],
         firsts: [0usize; 128],
@@ -376,27 +248,23 @@ fn not_walked() -> Walked
 pub fn walked_book(b: Book) -> Walked
     ensures { result ≡ walked_book b }
 {
-    let holdings = b.holdings;
-    let pairs = b.pairs;
     if !head_sound(b.account, b.identity, b.day) {
         return not_walked();
     }
-    if !room_sound(holdings, b.held, pairs, b.paired) {
+    if !room_sound(b.holdings, b.held, b.pairs, b.paired) {
         return not_walked();
     }
-    let keys = keys_of(holdings, b.held);
-    if !keys.sound {
+    let Some(keys) = keys_of(b.holdings, b.held) else {
         return not_walked();
-    }
-    let highs = keys.highs;
-    let lows = keys.lows;
-    let places = places_of(&highs, &lows, b.held, pairs, b.paired);
-    if !places.sound {
+    };
+    let highs = keys.0;
+    let lows = keys.1;
+    let Some(places) = places_of(&highs, &lows, b.held, b.pairs, b.paired) else {
         return not_walked();
-    }
-    let firsts = places.firsts;
-    let seconds = places.seconds;
-    let c = free_lots(holdings, b.held, pairs, b.paired, firsts, seconds);
+    };
+    let firsts = places.0;
+    let seconds = places.1;
+    let c = free_lots(b.holdings, b.held, b.pairs, b.paired, firsts, seconds);
     if !c.sound {
         return not_walked();
     }
@@ -427,6 +295,5 @@ pub fn checked_book(b: Book) -> Checked
 pub fn is_sound(b: Book) -> bool
     ensures { result ≡ sound_book b }
 {
-    let w = walked_book(b);
-    w.sound
+    walked_book(b).sound
 }

@@ -1,62 +1,36 @@
-// Pair and split. Each answers with a number and a book: 0 and the book that results, or the number of the first check that fails and
-// the book as it was handed in.
+// Pair and split. Each answers with the book that results, or with the refusal of the first check that fails.
 #![tactic(auto)]
 
-ghost use Rattle.std.specs.Prelude.{◌≡◌, ◌*◌, leb};
+ghost use Rattle.std.specs.Prelude.{◌≡◌, ◌*◌, leb, ltb, not, take};
+ghost use Rattle.laws.specs.Truth.{either};
 ghost use Rattle.laws.specs.Checks.{first_failing};
+ghost use Rattle.laws.specs.Refusals.{number_in};
 ghost use Rattle.lists.specs.Sorted.{kept};
 ghost use Rattle.lists.specs.Kept.{Keeping};
 ghost use Rattle.rows.specs.Rows.{pair_rank, no_units, lots_on, with_units, empty_pair};
-ghost use Rattle.rows.specs.Book.{paired_rows, pairs_of, with_pairs};
+ghost use Rattle.rows.specs.Book.{pairs_of, with_pairs, pair_in};
+ghost use Rattle.calls.specs.Outcome.{outcome_in};
 ghost use Rattle.calls.specs.Calls.{pairing_checks, joined, pair_answer, split_checks, parted, split_answer};
-ghost use Rattle.calls.specs.Facts.{Pairs, Splits, pair_rest};
+ghost use Rattle.calls.specs.Facts.{Pairs, Splits};
 
-use calls::Outcome;
-use lists::Slot;
+use laws::Refusal;
 use rows::{Book, Holding, Pair};
 use series::Side;
-
-// The book with other pairs.
-fn with_pairs(b: Book, rows: [Pair; 128], paired: usize) -> Book
-    ensures { result ≡ paired_rows b rows paired }
-{
-    let mut c = b;
-    c.pairs = rows;
-    c.paired = paired;
-    c
-}
 
 // The book with the pair in its place, or with its place given up where no units are left.
 fn keep_pair(b: Book, p: Pair) -> Book
     requires { Keeping empty_pair pair_rank b.paired b.pairs p }
     ensures { result ≡ with_pairs b (kept pair_rank no_units p (pairs_of b)) }
 {
-    let rows = b.pairs;
-    let paired = b.paired;
-    let gone = rows::no_units(p);
-    let slot = places::find_pair(rows, paired, p);
-    match slot {
-        Slot::At(i) => {
-            if gone {
-                return with_pairs(b, places::remove_pair(rows, i), paired - 1);
-            }
-            with_pairs(b, places::set_pair(rows, i, p), paired)
-        }
-        Slot::Before(i) => {
-            if gone {
-                return with_pairs(b, rows, paired);
-            }
-            with_pairs(b, places::insert_pair(rows, i, p), paired + 1)
-        }
-    }
+    let mut c = b;
+    c.paired = places::keep(&mut c.pairs, b.paired, p);
+    c
 }
 
 fn with_units(units: u32, p: Pair) -> Pair
     ensures { result ≡ with_units units p }
 {
-    let mut q = p;
-    q.units = units;
-    q
+    Pair { units, ..p }
 }
 
 // Whether a leg of r lots a unit finds its lots among the free ones. The product is worked in 64 bits, where every ratio and every
@@ -67,40 +41,34 @@ fn leg_free(r: u32, units: u32, side: Side, h: Holding) -> bool
     r as u64 * units as u64 <= rows::lots_on(side, h) as u64
 }
 
-// The checks of a pair behind those of its series: 6, 10, 9, 11.
-fn pair_rest(p: Pair, first: bool, second: bool, room: bool) -> u8
-    ensures { result ≡ pair_rest p first second room }
+// Whether there is room for a pair: it stands, or a row is empty.
+fn has_room(pairs: [Pair; 128], paired: usize, p: Pair) -> bool
+    ensures { result ≡ either (not (no_units (pair_in (take paired pairs) p))) (ltb paired 128) }
 {
-    let a = p.first;
-    let c = p.second;
-    let counts = rules::counts_fit(p.r1, p.r2, p.units);
-    let allowed = pairing::pair_number(p.kind, a, c, p.r1, p.r2);
-    let enough = laws::unless(9, laws::and(first, second), laws::unless(11, room, 0));
-    laws::unless(6, counts, laws::or_else(allowed, enough))
+    let q = places::pair_in(pairs, paired, p);
+    !rows::no_units(q) || paired < 128
 }
 
-fn pairing_number(b: Book, p: Pair) -> u8
-    ensures { result ≡ first_failing (pairing_checks b p) }
+#[tactic(auto, using(calls::specs::NumberLaws::pair_says))]
+fn pair_check(b: Book, p: Pair) -> Result<(), Refusal>
+    ensures { number_in result ≡ first_failing (pairing_checks b p) }
 {
     let c = sound::checked_book(b);
-    if !c.sound {
-        return 16;
-    }
+    laws::ensure(c.sound, Refusal::NotSound)?;
+    series::check(p.first)?;
+    series::check(p.second)?;
+    laws::ensure(rules::counts_fit(p.r1, p.r2, p.units), Refusal::WrongCount)?;
+    pairing::check(p.kind, p.first, p.second, p.r1, p.r2)?;
     let free = c.free;
-    let pairs = b.pairs;
     let s = p.first;
     let t = p.second;
     let h = places::holding_in(free, b.held, s);
     let k = places::holding_in(free, b.held, t);
-    let q = places::pair_in(pairs, b.paired, p);
     let first = leg_free(p.r1, p.units, pairing::first_side(p.kind, t), h);
     let second = leg_free(p.r2, p.units, pairing::second_side(p.kind), k);
-    let room = laws::or(!rows::no_units(q), b.paired < 128);
-    let rest = pair_rest(p, first, second, room);
-    laws::or_else(
-        series::series_number(s),
-        laws::or_else(series::series_number(t), rest),
-    )
+    let room = has_room(b.pairs, b.paired, p);
+    laws::ensure(first && second, Refusal::NotFree)?;
+    laws::ensure(room, Refusal::PairsFull)
 }
 
 fn pair_book(b: Book, p: Pair) -> Book
@@ -113,35 +81,25 @@ fn pair_book(b: Book, p: Pair) -> Book
 }
 
 // Pair free lots: units of a kind, two series and a ratio. What stands of it gains units.
-pub fn pair(b: Book, p: Pair) -> Outcome
-    ensures { result ≡ pair_answer b p }
+#[tactic(auto, using(calls::proofs::AnswerLaws::pair_refused, calls::proofs::AnswerLaws::pair_pairs, calls::proofs::AnswerLaws::pair_accepted))]
+pub fn pair(b: Book, p: Pair) -> Result<Book, Refusal>
+    ensures { outcome_in b result ≡ pair_answer b p }
 {
-    let number = pairing_number(b, p);
-    if number != 0 {
-        return Outcome { number, book: b };
-    }
-    Outcome {
-        number: 0,
-        book: pair_book(b, p),
-    }
+    pair_check(b, p)?;
+    Ok(pair_book(b, p))
 }
 
-fn split_number(b: Book, p: Pair) -> u8
-    ensures { result ≡ first_failing (split_checks b p) }
+#[tactic(auto, using(calls::specs::NumberLaws::split_says), unfolding(rows::specs::Book::pairs_of))]
+fn split_check(b: Book, p: Pair) -> Result<(), Refusal>
+    ensures { number_in result ≡ first_failing (split_checks b p) }
 {
-    if !sound::is_sound(b) {
-        return 16;
-    }
+    laws::ensure(sound::is_sound(b), Refusal::NotSound)?;
+    series::check(p.first)?;
+    series::check(p.second)?;
+    laws::ensure(rules::counts_fit(p.r1, p.r2, p.units), Refusal::WrongCount)?;
     let pairs = b.pairs;
-    let s = p.first;
-    let t = p.second;
     let q = places::pair_in(pairs, b.paired, p);
-    let counts = rules::counts_fit(p.r1, p.r2, p.units);
-    let rest = laws::unless(6, counts, laws::unless(12, p.units <= q.units, 0));
-    laws::or_else(
-        series::series_number(s),
-        laws::or_else(series::series_number(t), rest),
-    )
+    laws::ensure(p.units <= q.units, Refusal::NoSuchPair)
 }
 
 fn split_book(b: Book, p: Pair) -> Book
@@ -154,15 +112,10 @@ fn split_book(b: Book, p: Pair) -> Book
 }
 
 // Split units that stand: their lots are free again.
-pub fn split(b: Book, p: Pair) -> Outcome
-    ensures { result ≡ split_answer b p }
+#[tactic(auto, using(calls::proofs::AnswerLaws::split_refused, calls::proofs::AnswerLaws::split_splits, calls::proofs::AnswerLaws::split_accepted))]
+pub fn split(b: Book, p: Pair) -> Result<Book, Refusal>
+    ensures { outcome_in b result ≡ split_answer b p }
 {
-    let number = split_number(b, p);
-    if number != 0 {
-        return Outcome { number, book: b };
-    }
-    Outcome {
-        number: 0,
-        book: split_book(b, p),
-    }
+    split_check(b, p)?;
+    Ok(split_book(b, p))
 }

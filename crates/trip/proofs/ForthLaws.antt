@@ -24,9 +24,8 @@ use Rattle.rules.specs.RuleLaws.{book_is}
 use Rattle.calls.specs.Facts.{finds}
 use Rattle.lines.specs.Pieces.{lf, split_on}
 use Rattle.printed.specs.Printed.{holding_text, pair_text, texts_of, text_of}
-use Rattle.reading.specs.declared.Answer.{Answer}
+use Rattle.reading.specs.Reading.{Answer, line_checks, with_line, read_as, read_lines}
 use Rattle.book_lines.specs.Lines.{Line, holding, pair}
-use Rattle.reading.specs.Reading.{line_checks, with_line, read_as, read_lines}
 use Rattle.reading.specs.Next.{Rows, NextRow, Covered}
 use Rattle.reading.specs.NextLaws.{next_row}
 use Rattle.reading.specs.PassLaws.{later_checks, head_passes_back, holding_passes_back, pair_passes_back}

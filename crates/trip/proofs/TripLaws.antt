@@ -10,8 +10,7 @@ use Rattle.calls.specs.CallLaws.{no_book_sound}
 use Rattle.lines.specs.Texts.{line_text}
 use Rattle.printed.specs.Printed.{head_text, text_of}
 use Rattle.printed.specs.PrintedLaws.{text_fits}
-use Rattle.reading.specs.declared.Answer.{Answer}
-use Rattle.reading.specs.Reading.{refused_at, read_as, read_book}
+use Rattle.reading.specs.Reading.{Answer, refused_at, read_as, read_book}
 use Rattle.trip.specs.TripLaws.{ReadPrint, PrintRead}
 use Rattle.trip.proofs.ForthLaws.{book_read}
 use Rattle.trip.proofs.BackLaws.{text_ends}

@@ -2,8 +2,7 @@
 use Rattle.std.specs.Prelude.{◌≡◌, ◌⊎◌, List, ℕ, ◌<◌}
 use Rattle.rules.specs.Facts.{Sound}
 use Rattle.printed.specs.Printed.{text_of}
-use Rattle.reading.specs.declared.Answer.{Answer}
-use Rattle.reading.specs.Reading.{refused_at, read_as}
+use Rattle.reading.specs.Reading.{Answer, refused_at, read_as}
 
 -- The text t is read: the answer's book is sound, and t is its text.
 pub record Read (a : Answer) (t : List ℕ) : Type 0 where

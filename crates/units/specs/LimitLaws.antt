@@ -1,6 +1,6 @@
 -- Laws of limits: what a test says of a lot, of terms and of a unit.
-use Rattle.std.specs.Prelude.{◌≡◌, refl, Bool, true, ℕ, ◌≤◌, eqb, ltb}
-use Rattle.std.proofs.Common.{arith, leb-true, le-leb, eq-eqb}
+use Rattle.std.specs.Prelude.{◌≡◌, refl, Bool, true, ℕ, ◌*◌, ◌≤◌, eqb, ltb}
+use Rattle.std.proofs.Common.{arith, mul_assoc, leb-true, le-leb, eq-eqb}
 use Rattle.laws.specs.TruthLaws.{both_true, within_true, picked}
 use Rattle.laws.specs.Checks.{all_pass, numbered}
 use Rattle.laws.specs.CheckLaws.{no_failure}
@@ -10,6 +10,7 @@ use Rattle.levels.specs.Ranges.{AtMost}
 use Rattle.levels.specs.RangeLaws.{levels_are, levels_fit_lem}
 use Rattle.amounts.specs.declared.Lot.{Lot}
 use Rattle.amounts.specs.declared.Terms.{Terms}
+use Rattle.amounts.specs.Singles.{worth, portion}
 use Rattle.amounts.specs.Limits.{lot_fits, terms_fit}
 use Rattle.units.specs.Facts.{LotFacts, TermsFacts, UnitFacts}
 use Rattle.units.specs.Units.{lower_premium, c_charged, unit_checks, unit_number}
@@ -71,3 +72,8 @@ lower_most m1 v1 m2 v2 {most} h k =
 pub charged_most : (charged : Bool) (c : Levels) {most : ℕ} → AtMost most c → AtMost most (c_charged charged c)
 charged_most charged c {most} h =
     picked (λ (l : Levels). AtMost most l) charged c (flat 0) (λ _. h) (λ _. record { at_clearing = omega arith; at_maintenance = omega arith; at_initial = omega arith })
+
+-- Twice a price is worth twice as much.
+pub twice_worth : (price multiplier : ℕ) → worth (2 * price) multiplier ≡ 2 * worth price multiplier
+unfolding worth portion
+twice_worth price multiplier = simp (mul_assoc 2)

@@ -5,7 +5,7 @@ use Rattle.laws.specs.Checks.{Check, ◌unless◌, first_failing}
 use Rattle.laws.specs.Kinds.{by_kind}
 use Rattle.rounding.specs.Rounding.{to_dollar}
 use Rattle.levels.specs.declared.Levels.{Levels}
-use Rattle.levels.specs.declared.Answer.{Answer}
+use Rattle.levels.specs.Levels.{Answer}
 use Rattle.levels.specs.Levels.{per_level, both_levels, flat}
 use Rattle.amounts.specs.declared.Lot.{Lot}
 use Rattle.amounts.specs.declared.Terms.{Terms}

@@ -1,20 +1,36 @@
+use Rattle.std.proofs.Common.{arith, ◌≡◌}
+use Rattle.std.proofs.lemmas.Grind.{common_steps}
+use Rattle.rows.specs.Book.{no_book}
+use Rattle.calls.specs.Outcome.{outcome_in}
+use Rattle.exports.specs.Script.{call_said}
 use Rattle.exports.specs.ExportLaws.{make_said_lem, open_said, close_said, pair_call, split_said, turn_said}
 use Rattle.exports.proofs.call_said.Goals as goal
+use Rattle.exports.proofs.call_said.Goals.{in-0, in-1, in-2, in-3, in-4, in_default}
 
-pub returns-then-call-eq0 : goal.returns-then-call-eq0
-returns-then-call-eq0 c = make_said_lem _ _ _ c.word-call.ensures c.if-call-eq0.true c.word-then-call-eq0.ensures c.word.ensures c.identity_said-identity.ensures c.word-then-call-eq0-2.ensures c.make.ensures
-
-pub returns-then-call-eq1 : goal.returns-then-call-eq1
-returns-then-call-eq1 c = open_said _ _ _ c.word-call.ensures c.if-call-eq0.false c.if-call-eq1.true c.series_said.ensures c.word-then-call-eq1.ensures c.side_said-side.ensures c.word-then-call-eq1-2.ensures c.«open».ensures
-
-pub returns-then-call-eq2 : goal.returns-then-call-eq2
-returns-then-call-eq2 c = close_said _ _ _ c.word-call.ensures c.if-call-eq0.false c.if-call-eq1.false c.if-call-eq2.true c.series_said-then-call-eq2.ensures c.word-then-call-eq2.ensures c.side_said-side-then-call-eq2.ensures c.word-then-call-eq2-2.ensures c.close.ensures
-
-pub returns-then-call-eq3 : goal.returns-then-call-eq3
-returns-then-call-eq3 c = pair_call _ _ _ c.word-call.ensures c.if-call-eq0.false c.if-call-eq1.false c.if-call-eq2.false c.if-call-eq3.true c.pair_said.ensures c.pair.ensures
-
-pub returns-then-call-eq4 : goal.returns-then-call-eq4
-returns-then-call-eq4 c = split_said _ _ _ c.word-call.ensures c.if-call-eq0.false c.if-call-eq1.false c.if-call-eq2.false c.if-call-eq3.false c.if-call-eq4.true c.pair_said-then-call-eq4.ensures c.split.ensures
+pub returns-in_err-b : goal.returns-in_err-b
+unfolding no_book
+returns-in_err-b c =
+    let said : outcome_in c.match-word.b c.match-word.answer ≡ call_said c.args.b.now c.args.words.now c.args.at =
+    elim c.match-word.branch [
+      | in-0 w ↦ rw (w.b-is, w.answer-is, w.empty_book.ensures) (make_said_lem _ _ _ c.word.ensures w.in-0.is w.word-in-0-2.ensures w.word-in-0.ensures w.identity_said-identity.ensures w.word-in-0-3.ensures w.make-answer.ensures)
+      | in-1 w ↦ rw (w.b-is, w.answer-is) (open_said _ _ _ c.word.ensures (λ z. omega arith) w.in-1.is w.series_said.ensures w.word-in-1.ensures w.side_said-side.ensures w.word-in-1-2.ensures w.open-answer.ensures)
+      | in-2 w ↦ rw (w.b-is, w.answer-is) (close_said _ _ _ c.word.ensures (λ z. omega arith) (λ z. omega arith) w.in-2.is w.series_said-in-2.ensures w.word-in-2.ensures w.side_said-side-in-2.ensures w.word-in-2-2.ensures w.close-answer.ensures)
+      | in-3 w ↦ rw (w.b-is, w.answer-is) (pair_call _ _ _ c.word.ensures (λ z. omega arith) (λ z. omega arith) (λ z. omega arith) w.in-3.is w.pair_said.ensures w.pair-answer.ensures)
+      | in-4 w ↦ rw (w.b-is, w.answer-is) (split_said _ _ _ c.word.ensures (λ z. omega arith) (λ z. omega arith) (λ z. omega arith) (λ z. omega arith) w.in-4.is w.pair_said-in-4.ensures w.split-answer.ensures)
+      | in_default w ↦ rw (w.b-is, w.answer-is) (turn_said _ _ _ c.word.ensures (λ z. omega arith) (λ z. omega arith) (λ z. omega arith) (λ z. omega arith) (λ z. omega arith) w.word-in_default.ensures w.turn-answer.ensures)
+    ] in
+    grind (arith, common_steps, said)
 
 pub returns : goal.returns
-returns c = turn_said _ _ _ c.word-call.ensures c.if-call-eq0.false c.if-call-eq1.false c.if-call-eq2.false c.if-call-eq3.false c.if-call-eq4.false c.word-2.ensures c.turn.ensures
+unfolding no_book
+returns c =
+    let said : outcome_in c.match-word.b c.match-word.answer ≡ call_said c.args.b.now c.args.words.now c.args.at =
+    elim c.match-word.branch [
+      | in-0 w ↦ rw (w.b-is, w.answer-is, w.empty_book.ensures) (make_said_lem _ _ _ c.word.ensures w.in-0.is w.word-in-0-2.ensures w.word-in-0.ensures w.identity_said-identity.ensures w.word-in-0-3.ensures w.make-answer.ensures)
+      | in-1 w ↦ rw (w.b-is, w.answer-is) (open_said _ _ _ c.word.ensures (λ z. omega arith) w.in-1.is w.series_said.ensures w.word-in-1.ensures w.side_said-side.ensures w.word-in-1-2.ensures w.open-answer.ensures)
+      | in-2 w ↦ rw (w.b-is, w.answer-is) (close_said _ _ _ c.word.ensures (λ z. omega arith) (λ z. omega arith) w.in-2.is w.series_said-in-2.ensures w.word-in-2.ensures w.side_said-side-in-2.ensures w.word-in-2-2.ensures w.close-answer.ensures)
+      | in-3 w ↦ rw (w.b-is, w.answer-is) (pair_call _ _ _ c.word.ensures (λ z. omega arith) (λ z. omega arith) (λ z. omega arith) w.in-3.is w.pair_said.ensures w.pair-answer.ensures)
+      | in-4 w ↦ rw (w.b-is, w.answer-is) (split_said _ _ _ c.word.ensures (λ z. omega arith) (λ z. omega arith) (λ z. omega arith) (λ z. omega arith) w.in-4.is w.pair_said-in-4.ensures w.split-answer.ensures)
+      | in_default w ↦ rw (w.b-is, w.answer-is) (turn_said _ _ _ c.word.ensures (λ z. omega arith) (λ z. omega arith) (λ z. omega arith) (λ z. omega arith) (λ z. omega arith) w.word-in_default.ensures w.turn-answer.ensures)
+    ] in
+    grind (arith, common_steps, said)

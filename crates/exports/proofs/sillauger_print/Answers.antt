@@ -1,21 +1,28 @@
-use Rattle.std.proofs.Common.{refl, ◌∙◌}
+use Rattle.std.proofs.Common.{refl, arith, ◌∙◌}
+use Rattle.laws.specs.RefusalLaws.{refusal_positive}
+use Rattle.reading.specs.Reading.{read_as, refused_at}
+use Rattle.exports.specs.Exports.{print_coded}
 use Rattle.exports.specs.ExportLaws.{print_few, print_again, text_refused, text_printed}
 use Rattle.exports.proofs.sillauger_print.Goals as goal
 
-pub returns-then-a-ne0 : goal.returns-then-a-ne0
-returns-then-a-ne0 c = text_refused _ _ _ c.read-a.ensures c.if-a-ne0.true c.code_of.ensures
+pub returns-in-Err : goal.returns-in-Err
+unfolding refused_at
+returns-in-Err c =
+    let h = refusal_positive c.in-Err.f.refusal in
+    text_refused _ _ _ (rw c.in-Err.is at c.read.ensures) (λ z. omega arith) (rw c.number.ensures at c.code_of.ensures)
 
-pub loop-i-init : goal.loop-i-init
-loop-i-init c = (refl, refl)
+pub loop-init : goal.loop-init
+loop-init c = (refl, refl)
 
-pub loop-i-preserved : goal.loop-i-preserved
-loop-i-preserved c = print_again _ _ c.print-p.ensures c.loop-i.invariant.1 c.print-p-in-loop-i.ensures
+pub loop-preserved : goal.loop-preserved
+loop-preserved c = print_again _ _ c.print-p.ensures c.loop.invariant.1 c.print-p-in-loop.ensures
 
-pub overflow_cast-p : goal.overflow_cast-p
-overflow_cast-p c = record { fits = print_few _ _ (c.loop-i.invariant.0 ∙ c.print-p.ensures.0) }
+pub print_code-requires : goal.print_code-requires
+print_code-requires c = print_few _ _ (c.loop.invariant.0 ∙ c.print-p.ensures.0)
 
-pub returns : goal.returns
-returns c =
-    let inv = c.loop-i.invariant in
+pub returns-after-loop : goal.returns-after-loop
+unfolding read_as print_coded
+returns-after-loop c =
+    let inv = c.loop.invariant in
     let p = c.print-p.ensures in
-    text_printed _ _ _ c.read-a.ensures c.if-a-ne0.false (inv.0 ∙ p.0, inv.1 ∙ p.1) c.code_of-2.ensures
+    text_printed _ _ _ (rw c.in-Ok.is at c.read.ensures) refl (inv.0 ∙ p.0, inv.1 ∙ p.1) c.print_code.ensures

@@ -1,8 +1,6 @@
-use Rattle.std.proofs.Common.{◌-◌, ◌≡◌}
+use Rattle.std.proofs.Common.{◌≡◌}
+use Rattle.printed.specs.Printed.{printed_in}
 use Rattle.exports.proofs.sillauger_print.Given as goal
 
-abbrev pub invariant-loop-i : goal.invariant-loop-i
-invariant-loop-i l = (l.p ≡ l.initial.p) × (l.out ≡ l.initial.out)
-
-abbrev pub decreases-loop-i : goal.decreases-loop-i
-decreases-loop-i l = l.times - l.i
+abbrev pub invariant-loop : goal.invariant-loop
+invariant-loop l = (printed_in l.p ≡ printed_in l.initial.p) × (l.out ≡ l.initial.out)

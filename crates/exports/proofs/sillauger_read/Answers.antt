@@ -1,6 +1,11 @@
+use Rattle.reading.specs.Reading.{read_as, refused_at}
 use Rattle.exports.specs.Exports.{read_coded}
 use Rattle.exports.proofs.sillauger_read.Goals as goal
 
-pub returns : goal.returns
-unfolding read_coded
-returns c = rw c.read-a.ensures at c.code_of.ensures
+pub returns-in-Ok : goal.returns-in-Ok
+unfolding read_coded read_as
+returns-in-Ok c = rw (← c.read.ensures, c.in-Ok.is) c.code_of.ensures
+
+pub returns-in-Err : goal.returns-in-Err
+unfolding read_coded refused_at
+returns-in-Err c = rw (← c.read.ensures, c.in-Err.is) (rw c.number.ensures at c.code_of-in-Err.ensures)

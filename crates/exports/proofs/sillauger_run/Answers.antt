@@ -1,21 +1,31 @@
+use Rattle.std.proofs.Common.{refl, arith}
+use Rattle.laws.specs.RefusalLaws.{refusal_positive}
+use Rattle.reading.specs.Reading.{read_as, refused_at}
+use Rattle.exports.specs.Exports.{print_coded}
 use Rattle.exports.specs.ExportLaws.{print_few, cells_enough, run_refused, run_unfit, run_done}
 use Rattle.exports.proofs.sillauger_run.Goals as goal
 
-pub returns-then-a-ne0 : goal.returns-then-a-ne0
-returns-then-a-ne0 c = run_refused _ _ _ _ _ c.read-a.ensures c.if-a-ne0.true c.code_of.ensures
+pub returns-in-Err : goal.returns-in-Err
+unfolding refused_at
+returns-in-Err c =
+    let h = refusal_positive c.in-Err.f.refusal in
+    run_refused _ _ _ _ _ (rw c.in-Err.is at c.read.ensures) (λ z. omega arith) (rw c.number-in-Err.ensures at c.code_of-in-Err.ensures)
 
-pub returns-then-number-ne0 : goal.returns-then-number-ne0
-returns-then-number-ne0 c =
-    run_unfit _ _ _ _ _ c.read-a.ensures c.if-a-ne0.false c.script_number-number.ensures
-    c.if-number-ne0.true c.code_of-then-number-ne0.ensures
+pub returns-in-Err-check_script : goal.returns-in-Err-check_script
+unfolding read_as
+returns-in-Err-check_script c =
+    let h = refusal_positive c.in-Err-check_script.refusal in
+    run_unfit _ _ _ _ _ (rw c.in-Ok.is at c.read.ensures) refl (rw c.in-Err-check_script.is at c.check_script.ensures)
+    (λ z. omega arith) (rw c.number.ensures at c.code_of.ensures)
 
 pub run_calls-b-requires : goal.run_calls-b-requires
-run_calls-b-requires c = cells_enough _ _ _ c.script_number-number.ensures c.if-number-ne0.false
+run_calls-b-requires c = cells_enough _ _ _ (rw c.in-Ok-check_script.is at c.check_script.ensures) refl
 
-pub overflow_cast-p : goal.overflow_cast-p
-overflow_cast-p c = record { fits = print_few _ _ c.print-p.ensures.0 }
+pub print_code-requires : goal.print_code-requires
+print_code-requires c = print_few _ _ c.print.ensures.0
 
-pub returns : goal.returns
-returns c =
-    run_done _ _ _ _ _ c.read-a.ensures c.if-a-ne0.false c.script_number-number.ensures
-    c.if-number-ne0.false c.run_calls-b.ensures c.print-p.ensures c.code_of-2.ensures
+pub returns-in-Ok-check_script : goal.returns-in-Ok-check_script
+unfolding read_as print_coded
+returns-in-Ok-check_script c =
+    run_done _ _ _ _ _ (rw c.in-Ok.is at c.read.ensures) refl (rw c.in-Ok-check_script.is at c.check_script.ensures)
+    refl c.run_calls-b.ensures c.print.ensures c.print_code.ensures

@@ -1,10 +1,6 @@
-use Rattle.std.proofs.Common.{◌-◌}
 use Rattle.laws.specs.SearchLaws.{Searching}
 use Rattle.legs.specs.Ratios.{ratios, names, line_allows, own_allows, allowed_of}
 use Rattle.legs.proofs.allowed_of.Given as goal
 
-abbrev pub invariant-loop-i : goal.invariant-loop-i
-invariant-loop-i l = Searching (names l.future l.option) line_allows (own_allows l.future l.option) (allowed_of l.future l.option) ratios l.i
-
-abbrev pub decreases-loop-i : goal.decreases-loop-i
-decreases-loop-i l = 8 - l.i
+abbrev pub invariant-loop-line : goal.invariant-loop-line
+invariant-loop-line l = Searching (names l.future l.option) line_allows (own_allows l.future l.option) (allowed_of l.future l.option) ratios l.line-index

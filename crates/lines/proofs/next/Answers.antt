@@ -1,15 +1,12 @@
-use Rattle.std.proofs.Common.{refl, sym, ◌∙◌}
-use Rattle.lines.specs.CutLaws.{next_here, next_on, next_end}
+use Rattle.std.proofs.Common.{◌≡◌, sym, eqb, rules, tests}
+use Rattle.std.specs.List.{position}
+use Rattle.std.proofs.lemmas.Iterator.{YieldsList-from_slice}
+use Rattle.std.proofs.lemmas.Iterator.Search.{position_from_yields_List}
+use Rattle.lines.specs.CutLaws.{next_position}
 use Rattle.lines.proofs.next.Goals as goal
 
-pub loop-i-init : goal.loop-i-init
-loop-i-init c = refl
-
-pub returns-then-t-i : goal.returns-then-t-i
-returns-then-t-i c = next_here _ _ _ c.loop-i-test.true c.if-t-i.true ∙ c.loop-i.invariant
-
-pub loop-i-preserved : goal.loop-i-preserved
-loop-i-preserved c = sym (next_on _ _ _ c.loop-i-test.true c.if-t-i.false) ∙ c.loop-i.invariant
-
 pub returns : goal.returns
-returns c = next_end _ _ _ c.loop-i-test.false ∙ c.loop-i.invariant
+returns c =
+    let p : c.position-length.result ≡ position (λ x. eqb x c.args.b) c.rest_from-rest.result.now =
+    position_from_yields_List (λ x. eqb x c.args.b) _ _ c.position-length.result c.position-length.ensures.ran (YieldsList-from_slice c.rest_from-rest.result.now cc) (λ x b q k. search (rules, tests)) in
+    rw (c.unwrap_or.ensures, p, c.rest_from-rest.ensures) (sym (next_position c.args.t.now c.args.at c.args.b))

@@ -1,18 +1,13 @@
-use Rattle.std.proofs.Common.{refl, sym, ◌∙◌}
-use Rattle.lines.specs.StopLaws.{tab_stops, lf_stops, other_not, stop_here, stop_on, stop_end}
+use Rattle.std.proofs.Common.{◌≡◌, sym, rules, tests}
+use Rattle.std.specs.List.{position}
+use Rattle.std.proofs.lemmas.Iterator.{YieldsList-from_slice}
+use Rattle.std.proofs.lemmas.Iterator.Search.{position_from_yields_List}
+use Rattle.lines.specs.Pieces.{stops}
+use Rattle.lines.specs.StopLaws.{stop_position}
 use Rattle.lines.proofs.stop_of.Goals as goal
 
-pub loop-stop-init : goal.loop-stop-init
-loop-stop-init c = refl
-
-pub returns-then-t-stop-eq9 : goal.returns-then-t-stop-eq9
-returns-then-t-stop-eq9 c = stop_here _ _ c.loop-stop-test.true (tab_stops c.if-t-stop-eq9.true) ∙ c.loop-stop.invariant
-
-pub returns-then-t-stop-eq10 : goal.returns-then-t-stop-eq10
-returns-then-t-stop-eq10 c = stop_here _ _ c.loop-stop-test.true (lf_stops c.if-t-stop-eq10.true) ∙ c.loop-stop.invariant
-
-pub loop-stop-preserved : goal.loop-stop-preserved
-loop-stop-preserved c = sym (stop_on _ _ c.loop-stop-test.true (other_not c.if-t-stop-eq9.false c.if-t-stop-eq10.false)) ∙ c.loop-stop.invariant
-
 pub returns : goal.returns
-returns c = stop_end _ _ c.loop-stop-test.false ∙ c.loop-stop.invariant
+returns c =
+    let p : c.position-length.result ≡ position stops c.rest_from-rest.result.now =
+    position_from_yields_List stops _ _ c.position-length.result c.position-length.ensures.ran (YieldsList-from_slice c.rest_from-rest.result.now cc) (λ x b q k. search (rules, tests)) in
+    rw (c.unwrap_or.ensures, p, c.rest_from-rest.ensures) (sym (stop_position c.args.t.now c.args.at))

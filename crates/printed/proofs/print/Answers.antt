@@ -7,11 +7,11 @@ use Rattle.printed.proofs.print.Goals as goal
 pub returns-then-not-is_sound : goal.returns-then-not-is_sound
 returns-then-not-is_sound c = unsound_answer _ _ (sym c.is_sound.ensures ∙ c.if-not-is_sound.true)
 
-pub put_book-whole-requires : goal.put_book-whole-requires
-put_book-whole-requires c = (sym c.is_sound.ensures ∙ c.if-not-is_sound.false, c.if-out-ge16384.true)
+pub put_book-requires : goal.put_book-requires
+put_book-requires c = (sym c.is_sound.ensures ∙ c.if-not-is_sound.false, c.if-out-ge16384.true)
 
 pub returns-then-out-ge16384 : goal.returns-then-out-ge16384
-returns-then-out-ge16384 c = straight_answer _ (sym c.is_sound.ensures ∙ c.if-not-is_sound.false) c.if-out-ge16384.true (put_is c.put_book-whole.ensures)
+returns-then-out-ge16384 c = straight_answer _ (sym c.is_sound.ensures ∙ c.if-not-is_sound.false) c.if-out-ge16384.true (put_is c.put_book.ensures)
 
 pub put_book-n-requires : goal.put_book-n-requires
 put_book-n-requires c = (sym c.is_sound.ensures ∙ c.if-not-is_sound.false, omega (arith, length-replicate {A = ℕ} 16384 0))

@@ -18,6 +18,7 @@ put_byte-requires c = room_left (placed_then c.put_byte-a.ensures (placed_then c
 pub returns : goal.returns
 unfolding head_text
 returns c =
-    line_placed _ (head_fits _ _ _) c.put_byte-a.ensures
+    rw (← c.from.ensures)
+    (line_placed _ (head_fits _ _ _) c.put_byte-a.ensures
     (fields_placed _ _ (field_placed c.put_byte-b.ensures (placed (put_is c.put_fixed-c.ensures) (fixed_few 7 _))) (fields_placed _ _ c.put_mark-d.ensures c.put_date-e.ensures))
-    c.put_byte.ensures
+    c.put_byte.ensures)

@@ -6,6 +6,7 @@ use Rattle.put.proofs.put_refusal.Goals as goal
 pub returns : goal.returns
 unfolding refusal_text
 returns c =
-    put_says (line_laid _ (put_is c.put_byte-a.ensures)
+    rw (← c.from.ensures, ← c.from-2.ensures)
+    (put_says (line_laid _ (put_is c.put_byte-a.ensures)
     (fields_then _ _ (put_is c.put_figure-b.ensures) (put_is c.put_figure-c.ensures))
-    (put_is c.put_byte.ensures))
+    (put_is c.put_byte.ensures)))

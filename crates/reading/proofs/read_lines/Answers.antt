@@ -1,6 +1,7 @@
-use Rattle.std.proofs.Common.{arith, sym, ℕ, ◌∙◌}
+use Rattle.std.proofs.Common.{arith, rules, sym, ℕ, ◌∙◌}
 use lib.ListN.{length-replicate}
 use Rattle.rows.specs.Book.{no_book}
+use Rattle.laws.specs.RefusalLaws.{refusal_positive}
 use Rattle.lines.specs.LoopLaws.{stops_low}
 use Rattle.book_lines.specs.ItemLaws.{parts_begin, part_fits_lem, part_wrong, part_room, part_less, part_on, parts_wrong, part_unsaid, line_read, letter_last}
 use Rattle.reading.specs.StateLaws.{no_lasts, head_lasts}
@@ -66,24 +67,24 @@ legs_at-legs-requires c = c.lines.invariant.0.along.sound.holdings_sound_lem.few
 
 pub lines-smaller-then-letter-eq65 : goal.lines-smaller-then-letter-eq65
 lines-smaller-then-letter-eq65 c =
-    line_less (line_passes (row_said c.lines.invariant.0 c.if-at-t.false (line_read c.fields.invariant c.fields-test.false c.parts_of.ensures c.if-k-parts_of.false)) c.pair_of-p.ensures c.legs_at-legs.ensures c.lines.invariant.1.0 c.line_number-number.ensures c.if-number-ne0.false)
+    line_less (line_passes (row_said c.lines.invariant.0 c.if-at-t.false (line_read c.fields.invariant c.fields-test.false c.parts_of.ensures c.if-k-parts_of.false)) c.pair_of-p.ensures c.legs_at-legs.ensures c.lines.invariant.1.0 c.check_line-checked.ensures (search rules))
 
 pub lines-preserved-then-letter-eq65 : goal.lines-preserved-then-letter-eq65
 lines-preserved-then-letter-eq65 c =
-    (head_next (line_passes (row_said c.lines.invariant.0 c.if-at-t.false (line_read c.fields.invariant c.fields-test.false c.parts_of.ensures c.if-k-parts_of.false)) c.pair_of-p.ensures c.legs_at-legs.ensures c.lines.invariant.1.0 c.line_number-number.ensures c.if-number-ne0.false) c.if-letter-eq65.true, (head_lasts c.lines.invariant.1.0 _ _ _, c.fields.invariant.long))
+    (head_next (line_passes (row_said c.lines.invariant.0 c.if-at-t.false (line_read c.fields.invariant c.fields-test.false c.parts_of.ensures c.if-k-parts_of.false)) c.pair_of-p.ensures c.legs_at-legs.ensures c.lines.invariant.1.0 c.check_line-checked.ensures (search rules)) c.if-letter-eq65.true, (head_lasts c.lines.invariant.1.0 _ _ _, c.fields.invariant.long))
 
 pub offset_bounds-book-n : goal.offset_bounds-book-n
 offset_bounds-book-n c =
-    let room = holding_room (line_passes (row_said c.lines.invariant.0 c.if-at-t.false (line_read c.fields.invariant c.fields-test.false c.parts_of.ensures c.if-k-parts_of.false)) c.pair_of-p.ensures c.legs_at-legs.ensures c.lines.invariant.1.0 c.line_number-number.ensures c.if-number-ne0.false) c.if-letter-eq72.true c.holding_of-h.ensures in
+    let room = holding_room (line_passes (row_said c.lines.invariant.0 c.if-at-t.false (line_read c.fields.invariant c.fields-test.false c.parts_of.ensures c.if-k-parts_of.false)) c.pair_of-p.ensures c.legs_at-legs.ensures c.lines.invariant.1.0 c.check_line-checked.ensures (search rules)) c.if-letter-eq72.true c.holding_of-h.ensures in
     omega (arith, room)
 
 pub bounds-book-n : goal.bounds-book-n
 bounds-book-n c =
-    holding_room (line_passes (row_said c.lines.invariant.0 c.if-at-t.false (line_read c.fields.invariant c.fields-test.false c.parts_of.ensures c.if-k-parts_of.false)) c.pair_of-p.ensures c.legs_at-legs.ensures c.lines.invariant.1.0 c.line_number-number.ensures c.if-number-ne0.false) c.if-letter-eq72.true c.holding_of-h.ensures
+    holding_room (line_passes (row_said c.lines.invariant.0 c.if-at-t.false (line_read c.fields.invariant c.fields-test.false c.parts_of.ensures c.if-k-parts_of.false)) c.pair_of-p.ensures c.legs_at-legs.ensures c.lines.invariant.1.0 c.check_line-checked.ensures (search rules)) c.if-letter-eq72.true c.holding_of-h.ensures
 
 pub overflow_add-book : goal.overflow_add-book
 overflow_add-book c =
-    let room = holding_room (line_passes (row_said c.lines.invariant.0 c.if-at-t.false (line_read c.fields.invariant c.fields-test.false c.parts_of.ensures c.if-k-parts_of.false)) c.pair_of-p.ensures c.legs_at-legs.ensures c.lines.invariant.1.0 c.line_number-number.ensures c.if-number-ne0.false) c.if-letter-eq72.true c.holding_of-h.ensures in
+    let room = holding_room (line_passes (row_said c.lines.invariant.0 c.if-at-t.false (line_read c.fields.invariant c.fields-test.false c.parts_of.ensures c.if-k-parts_of.false)) c.pair_of-p.ensures c.legs_at-legs.ensures c.lines.invariant.1.0 c.check_line-checked.ensures (search rules)) c.if-letter-eq72.true c.holding_of-h.ensures in
     omega (arith, room)
 
 pub slice_bounds-enter-end : goal.slice_bounds-enter-end
@@ -97,28 +98,28 @@ slice_bounds-enter-end-then-letter-eq72-2 c = sym c.lines.invariant.0.along.free
 
 pub enter-requires : goal.enter-requires
 enter-requires c =
-    entry_asks (line_passes (row_said c.lines.invariant.0 c.if-at-t.false (line_read c.fields.invariant c.fields-test.false c.parts_of.ensures c.if-k-parts_of.false)) c.pair_of-p.ensures c.legs_at-legs.ensures c.lines.invariant.1.0 c.line_number-number.ensures c.if-number-ne0.false) c.if-letter-eq72.true c.holding_of-h.ensures
+    entry_asks (line_passes (row_said c.lines.invariant.0 c.if-at-t.false (line_read c.fields.invariant c.fields-test.false c.parts_of.ensures c.if-k-parts_of.false)) c.pair_of-p.ensures c.legs_at-legs.ensures c.lines.invariant.1.0 c.check_line-checked.ensures (search rules)) c.if-letter-eq72.true c.holding_of-h.ensures
 
 pub lines-smaller-then-letter-eq72 : goal.lines-smaller-then-letter-eq72
 lines-smaller-then-letter-eq72 c =
-    line_less (line_passes (row_said c.lines.invariant.0 c.if-at-t.false (line_read c.fields.invariant c.fields-test.false c.parts_of.ensures c.if-k-parts_of.false)) c.pair_of-p.ensures c.legs_at-legs.ensures c.lines.invariant.1.0 c.line_number-number.ensures c.if-number-ne0.false)
+    line_less (line_passes (row_said c.lines.invariant.0 c.if-at-t.false (line_read c.fields.invariant c.fields-test.false c.parts_of.ensures c.if-k-parts_of.false)) c.pair_of-p.ensures c.legs_at-legs.ensures c.lines.invariant.1.0 c.check_line-checked.ensures (search rules))
 
 pub lines-preserved-then-letter-eq72 : goal.lines-preserved-then-letter-eq72
 lines-preserved-then-letter-eq72 c =
-    (holding_next (line_passes (row_said c.lines.invariant.0 c.if-at-t.false (line_read c.fields.invariant c.fields-test.false c.parts_of.ensures c.if-k-parts_of.false)) c.pair_of-p.ensures c.legs_at-legs.ensures c.lines.invariant.1.0 c.line_number-number.ensures c.if-number-ne0.false) c.if-letter-eq72.true c.holding_of-h.ensures c.enter.ensures, (holding_lasts (line_passes (row_said c.lines.invariant.0 c.if-at-t.false (line_read c.fields.invariant c.fields-test.false c.parts_of.ensures c.if-k-parts_of.false)) c.pair_of-p.ensures c.legs_at-legs.ensures c.lines.invariant.1.0 c.line_number-number.ensures c.if-number-ne0.false) c.if-letter-eq72.true c.holding_of-h.ensures c.lines.invariant.1.0, c.fields.invariant.long))
+    (holding_next (line_passes (row_said c.lines.invariant.0 c.if-at-t.false (line_read c.fields.invariant c.fields-test.false c.parts_of.ensures c.if-k-parts_of.false)) c.pair_of-p.ensures c.legs_at-legs.ensures c.lines.invariant.1.0 c.check_line-checked.ensures (search rules)) c.if-letter-eq72.true c.holding_of-h.ensures c.enter.ensures, (holding_lasts (line_passes (row_said c.lines.invariant.0 c.if-at-t.false (line_read c.fields.invariant c.fields-test.false c.parts_of.ensures c.if-k-parts_of.false)) c.pair_of-p.ensures c.legs_at-legs.ensures c.lines.invariant.1.0 c.check_line-checked.ensures (search rules)) c.if-letter-eq72.true c.holding_of-h.ensures c.lines.invariant.1.0, c.fields.invariant.long))
 
 pub offset_bounds-book-m : goal.offset_bounds-book-m
 offset_bounds-book-m c =
-    let room = pair_room (line_passes (row_said c.lines.invariant.0 c.if-at-t.false (line_read c.fields.invariant c.fields-test.false c.parts_of.ensures c.if-k-parts_of.false)) c.pair_of-p.ensures c.legs_at-legs.ensures c.lines.invariant.1.0 c.line_number-number.ensures c.if-number-ne0.false) (letter_last c.fields.invariant c.fields-test.false c.parts_of.ensures c.if-k-parts_of.false c.if-letter-eq65.false c.if-letter-eq72.false) c.pair_of-p.ensures in
+    let room = pair_room (line_passes (row_said c.lines.invariant.0 c.if-at-t.false (line_read c.fields.invariant c.fields-test.false c.parts_of.ensures c.if-k-parts_of.false)) c.pair_of-p.ensures c.legs_at-legs.ensures c.lines.invariant.1.0 c.check_line-checked.ensures (search rules)) (letter_last c.fields.invariant c.fields-test.false c.parts_of.ensures c.if-k-parts_of.false c.if-letter-eq65.false c.if-letter-eq72.false) c.pair_of-p.ensures in
     omega (arith, room)
 
 pub bounds-book-m : goal.bounds-book-m
 bounds-book-m c =
-    pair_room (line_passes (row_said c.lines.invariant.0 c.if-at-t.false (line_read c.fields.invariant c.fields-test.false c.parts_of.ensures c.if-k-parts_of.false)) c.pair_of-p.ensures c.legs_at-legs.ensures c.lines.invariant.1.0 c.line_number-number.ensures c.if-number-ne0.false) (letter_last c.fields.invariant c.fields-test.false c.parts_of.ensures c.if-k-parts_of.false c.if-letter-eq65.false c.if-letter-eq72.false) c.pair_of-p.ensures
+    pair_room (line_passes (row_said c.lines.invariant.0 c.if-at-t.false (line_read c.fields.invariant c.fields-test.false c.parts_of.ensures c.if-k-parts_of.false)) c.pair_of-p.ensures c.legs_at-legs.ensures c.lines.invariant.1.0 c.check_line-checked.ensures (search rules)) (letter_last c.fields.invariant c.fields-test.false c.parts_of.ensures c.if-k-parts_of.false c.if-letter-eq65.false c.if-letter-eq72.false) c.pair_of-p.ensures
 
 pub overflow_add-book-in-lines : goal.overflow_add-book-in-lines
 overflow_add-book-in-lines c =
-    let room = pair_room (line_passes (row_said c.lines.invariant.0 c.if-at-t.false (line_read c.fields.invariant c.fields-test.false c.parts_of.ensures c.if-k-parts_of.false)) c.pair_of-p.ensures c.legs_at-legs.ensures c.lines.invariant.1.0 c.line_number-number.ensures c.if-number-ne0.false) (letter_last c.fields.invariant c.fields-test.false c.parts_of.ensures c.if-k-parts_of.false c.if-letter-eq65.false c.if-letter-eq72.false) c.pair_of-p.ensures in
+    let room = pair_room (line_passes (row_said c.lines.invariant.0 c.if-at-t.false (line_read c.fields.invariant c.fields-test.false c.parts_of.ensures c.if-k-parts_of.false)) c.pair_of-p.ensures c.legs_at-legs.ensures c.lines.invariant.1.0 c.check_line-checked.ensures (search rules)) (letter_last c.fields.invariant c.fields-test.false c.parts_of.ensures c.if-k-parts_of.false c.if-letter-eq65.false c.if-letter-eq72.false) c.pair_of-p.ensures in
     omega (arith, room)
 
 pub slice_bounds-take_legs-end : goal.slice_bounds-take_legs-end
@@ -126,18 +127,18 @@ slice_bounds-take_legs-end c = sym c.lines.invariant.0.along.free_long
 
 pub take_legs-requires : goal.take_legs-requires
 take_legs-requires c =
-    legs_ask (line_passes (row_said c.lines.invariant.0 c.if-at-t.false (line_read c.fields.invariant c.fields-test.false c.parts_of.ensures c.if-k-parts_of.false)) c.pair_of-p.ensures c.legs_at-legs.ensures c.lines.invariant.1.0 c.line_number-number.ensures c.if-number-ne0.false) (letter_last c.fields.invariant c.fields-test.false c.parts_of.ensures c.if-k-parts_of.false c.if-letter-eq65.false c.if-letter-eq72.false) c.pair_of-p.ensures
+    legs_ask (line_passes (row_said c.lines.invariant.0 c.if-at-t.false (line_read c.fields.invariant c.fields-test.false c.parts_of.ensures c.if-k-parts_of.false)) c.pair_of-p.ensures c.legs_at-legs.ensures c.lines.invariant.1.0 c.check_line-checked.ensures (search rules)) (letter_last c.fields.invariant c.fields-test.false c.parts_of.ensures c.if-k-parts_of.false c.if-letter-eq65.false c.if-letter-eq72.false) c.pair_of-p.ensures
 
 pub lines-smaller : goal.lines-smaller
 lines-smaller c =
-    line_less (line_passes (row_said c.lines.invariant.0 c.if-at-t.false (line_read c.fields.invariant c.fields-test.false c.parts_of.ensures c.if-k-parts_of.false)) c.pair_of-p.ensures c.legs_at-legs.ensures c.lines.invariant.1.0 c.line_number-number.ensures c.if-number-ne0.false)
+    line_less (line_passes (row_said c.lines.invariant.0 c.if-at-t.false (line_read c.fields.invariant c.fields-test.false c.parts_of.ensures c.if-k-parts_of.false)) c.pair_of-p.ensures c.legs_at-legs.ensures c.lines.invariant.1.0 c.check_line-checked.ensures (search rules))
 
 pub lines-preserved : goal.lines-preserved
 lines-preserved c =
-    (pair_next (line_passes (row_said c.lines.invariant.0 c.if-at-t.false (line_read c.fields.invariant c.fields-test.false c.parts_of.ensures c.if-k-parts_of.false)) c.pair_of-p.ensures c.legs_at-legs.ensures c.lines.invariant.1.0 c.line_number-number.ensures c.if-number-ne0.false) (letter_last c.fields.invariant c.fields-test.false c.parts_of.ensures c.if-k-parts_of.false c.if-letter-eq65.false c.if-letter-eq72.false) c.pair_of-p.ensures c.legs_at-legs.ensures c.take_legs.ensures, (pair_lasts (line_passes (row_said c.lines.invariant.0 c.if-at-t.false (line_read c.fields.invariant c.fields-test.false c.parts_of.ensures c.if-k-parts_of.false)) c.pair_of-p.ensures c.legs_at-legs.ensures c.lines.invariant.1.0 c.line_number-number.ensures c.if-number-ne0.false) (letter_last c.fields.invariant c.fields-test.false c.parts_of.ensures c.if-k-parts_of.false c.if-letter-eq65.false c.if-letter-eq72.false) c.pair_of-p.ensures c.lines.invariant.1.0, c.fields.invariant.long))
+    (pair_next (line_passes (row_said c.lines.invariant.0 c.if-at-t.false (line_read c.fields.invariant c.fields-test.false c.parts_of.ensures c.if-k-parts_of.false)) c.pair_of-p.ensures c.legs_at-legs.ensures c.lines.invariant.1.0 c.check_line-checked.ensures (search rules)) (letter_last c.fields.invariant c.fields-test.false c.parts_of.ensures c.if-k-parts_of.false c.if-letter-eq65.false c.if-letter-eq72.false) c.pair_of-p.ensures c.legs_at-legs.ensures c.take_legs.ensures, (pair_lasts (line_passes (row_said c.lines.invariant.0 c.if-at-t.false (line_read c.fields.invariant c.fields-test.false c.parts_of.ensures c.if-k-parts_of.false)) c.pair_of-p.ensures c.legs_at-legs.ensures c.lines.invariant.1.0 c.check_line-checked.ensures (search rules)) (letter_last c.fields.invariant c.fields-test.false c.parts_of.ensures c.if-k-parts_of.false c.if-letter-eq65.false c.if-letter-eq72.false) c.pair_of-p.ensures c.lines.invariant.1.0, c.fields.invariant.long))
 
 pub returns-then-at-t : goal.returns-then-at-t
-returns-then-at-t c = c.accept.ensures ∙ lines_end c.lines.invariant.0 c.if-at-t.true
+returns-then-at-t c = lines_end c.lines.invariant.0 c.if-at-t.true
 
 pub returns-then-stop-t : goal.returns-then-stop-t
 returns-then-stop-t c = c.refused.ensures ∙ formless_refused c.lines.invariant.0 c.if-at-t.false (letter_unended c.lines.invariant.0 c.if-at-t.false c.stop_of-stop.ensures c.if-stop-t.true)
@@ -155,6 +156,6 @@ returns-then-k-parts_of c =
     c.refused-then-k-parts_of.ensures
     ∙ formless_refused c.lines.invariant.0 c.if-at-t.false (part_unsaid i (parts_wrong i c.fields-test.false c.parts_of.ensures c.if-k-parts_of.true))
 
-pub returns-then-number-ne0 : goal.returns-then-number-ne0
-returns-then-number-ne0 c =
-    c.refused-then-number-ne0.ensures ∙ line_refused (row_said c.lines.invariant.0 c.if-at-t.false (line_read c.fields.invariant c.fields-test.false c.parts_of.ensures c.if-k-parts_of.false)) c.pair_of-p.ensures c.legs_at-legs.ensures c.lines.invariant.1.0 c.line_number-number.ensures c.if-number-ne0.true
+pub returns-in-Err : goal.returns-in-Err
+returns-in-Err c =
+    c.refused-in-Err.ensures ∙ line_refused (row_said c.lines.invariant.0 c.if-at-t.false (line_read c.fields.invariant c.fields-test.false c.parts_of.ensures c.if-k-parts_of.false)) c.pair_of-p.ensures c.legs_at-legs.ensures c.lines.invariant.1.0 (rw c.in-Err.is at c.check_line-checked.ensures) (λ z. let h = refusal_positive c.in-Err.refusal in omega arith)

@@ -6,4 +6,4 @@ use Rattle.sheets.proofs.empty_sheet.Goals as goal
 
 pub returns : goal.returns
 unfolding laid_out no_rows full stock_at tabled future_codes option_codes clearing_in index_in first_where
-returns c = rw (c.no_price-price.ensures, c.no_stock-stock.ensures, c.no_index-index.ensures, c.no_amount-none.ensures)
+returns c = rw (c.no_price.ensures, c.no_stock.ensures, c.no_index.ensures)

@@ -1,34 +1,25 @@
-use Rattle.std.proofs.Common.{◌≡◌, ◌+◌, [], ◌∷◌, sym, subst, get_or}
-use Rattle.std.proofs.lemmas.List.{get_or_default}
-use Rattle.laws.specs.Order.{by_order, bytes_order}
-use Rattle.sheets.specs.declared.PriceRow.{PriceRow}
-use Rattle.sheets.specs.Rows.{no_price}
-use Rattle.sheets.specs.Sheet.{row_key}
-use Rattle.sheets.specs.Seeking.{search_from, found_at}
-use Rattle.sheets.specs.SeekLaws.{seek_starts, seek_ends, seek_fits, seek_inside, seek_on}
+use Rattle.std.proofs.Common.{arith, sym, ◌∙◌}
+use Rattle.halving.specs.Halving.{middle}
+use Rattle.sheets.specs.SeekLaws.{seek_starts, seek_up, seek_down, seek_here, seek_none, pair_at}
 use Rattle.sheets.proofs.price_of.Goals as goal
 
-pub loop-s-init : goal.loop-s-init
-loop-s-init c = rw c.search_from-s.ensures (seek_starts _ _)
+pub loop-low-init : goal.loop-low-init
+loop-low-init c = record { inside = omega arith; seeks = seek_starts _ _ }
 
-pub bounds-rows-s : goal.bounds-rows-s
-bounds-rows-s c = seek_inside _ _ c.loop-s.invariant c.loop-s-test.true
+pub loop-low-preserved-in-Less : goal.loop-low-preserved-in-Less
+loop-low-preserved-in-Less c = record {
+  inside = omega arith;
+  seeks = seek_up _ _ c.loop-low.invariant.seeks c.loop-low-test.true (sym c.in-Less.is ∙ pair_at c.args.rows.now c.args.key (middle c.loop-low.low c.loop-low.high) _ c.halves_of-k.ensures c.cmp.ensures (omega arith));
+}
 
-pub narrowed-s-requires : goal.narrowed-s-requires
-narrowed-s-requires c = seek_fits _ _ c.loop-s.invariant c.loop-s-test.true
+pub returns-in-Equal : goal.returns-in-Equal
+returns-in-Equal c = seek_here _ _ c.loop-low.invariant.seeks c.loop-low-test.true _ (sym c.in-Equal.is ∙ pair_at c.args.rows.now c.args.key (middle c.loop-low.low c.loop-low.high) _ c.halves_of-k.ensures c.cmp.ensures (omega arith)) (omega arith)
 
--- The row that is looked at is there, whatever stands for one that is not.
-turn : (c : goal.After-narrowed-s) → c.narrowed-s.result ≡ by_order (bytes_order (row_key (get_or c.args.rows.now c.loop-s.s.middle no_price)) (c.args.key.high ∷ c.args.key.low ∷ [])) (search_from (c.loop-s.s.middle + 1) c.loop-s.s.high) (found_at c.loop-s.s.middle (get_or c.args.rows.now c.loop-s.s.middle no_price).price) (search_from c.loop-s.s.low c.loop-s.s.middle)
-turn c =
-    let inside = seek_inside _ _ c.loop-s.invariant c.loop-s-test.true in
-    let e = get_or_default c.args.rows.now c.loop-s.s.middle _ no_price inside in
-    subst (λ (r : PriceRow). c.narrowed-s.result ≡ by_order (bytes_order (row_key r) (c.args.key.high ∷ c.args.key.low ∷ [])) (search_from (c.loop-s.s.middle + 1) c.loop-s.s.high) (found_at c.loop-s.s.middle r.price) (search_from c.loop-s.s.low c.loop-s.s.middle)) e c.narrowed-s.ensures
-
-pub loop-s-smaller : goal.loop-s-smaller
-loop-s-smaller c = (seek_on _ _ c.loop-s.invariant c.loop-s-test.true (turn c)).1
-
-pub loop-s-preserved : goal.loop-s-preserved
-loop-s-preserved c = (seek_on _ _ c.loop-s.invariant c.loop-s-test.true (turn c)).0
+pub loop-low-preserved : goal.loop-low-preserved
+loop-low-preserved c = record {
+  inside = omega arith;
+  seeks = seek_down _ _ c.loop-low.invariant.seeks c.loop-low-test.true (sym c.in-Greater.is ∙ pair_at c.args.rows.now c.args.key (middle c.loop-low.low c.loop-low.high) _ c.halves_of-k.ensures c.cmp.ensures (omega arith));
+}
 
 pub returns : goal.returns
-returns c = sym (seek_ends _ _ c.loop-s.invariant c.loop-s-test.false)
+returns c = seek_none _ _ c.loop-low.invariant.seeks c.loop-low-test.false

@@ -51,7 +51,7 @@ pub overflow_mul-n : goal.overflow_mul-n
 overflow_mul-n c = let few = (pair_counts c.loop-j.invariant c.loop-j-test.true).few_lots2 in omega arith
 
 pub returns-then-lots_on-n : goal.returns-then-lots_on-n
-returns-then-lots_on-n c = c.unsound-then-lots_on-n.ensures ∙ second_lacks c.loop-j.invariant c.loop-j-test.true c.first_side-s.ensures c.lots_on.ensures c.if-lots_on-m.false c.lessen-less.ensures c.second_side-t.ensures c.lots_on-in-loop-j.ensures c.if-lots_on-n.true
+returns-then-lots_on-n c = c.unsound-then-lots_on-n.ensures ∙ second_lacks c.loop-j.invariant c.loop-j-test.true c.first_side-s.ensures c.lots_on.ensures c.if-lots_on-m.false c.lessen.ensures c.second_side-t.ensures c.lots_on-in-loop-j.ensures c.if-lots_on-n.true
 
 pub offset_bounds-free-y-in-loop-j : goal.offset_bounds-free-y-in-loop-j
 offset_bounds-free-y-in-loop-j c = let few = few_seconds c.loop-j.invariant c.loop-j-test.true in omega arith
@@ -59,14 +59,8 @@ offset_bounds-free-y-in-loop-j c = let few = few_seconds c.loop-j.invariant c.lo
 pub bounds-free-y-in-loop-j : goal.bounds-free-y-in-loop-j
 bounds-free-y-in-loop-j c = let few = few_seconds c.loop-j.invariant c.loop-j-test.true in omega arith
 
-pub overflow_add-j : goal.overflow_add-j
-overflow_add-j c = let few = few_pairs c.loop-j.invariant c.loop-j-test.true in omega arith
-
-pub loop-j-smaller : goal.loop-j-smaller
-loop-j-smaller c = let more = c.loop-j-test.true in omega arith
-
 pub loop-j-preserved : goal.loop-j-preserved
-loop-j-preserved c = pair_takes c.loop-j.invariant c.loop-j-test.true c.first_side-s.ensures c.lots_on.ensures c.if-lots_on-m.false c.lessen-less.ensures c.second_side-t.ensures c.lots_on-in-loop-j.ensures c.if-lots_on-n.false c.lessen-rest.ensures
+loop-j-preserved c = pair_takes c.loop-j.invariant c.loop-j-test.true c.first_side-s.ensures c.lots_on.ensures c.if-lots_on-m.false c.lessen.ensures c.second_side-t.ensures c.lots_on-in-loop-j.ensures c.if-lots_on-n.false c.lessen-in-loop-j.ensures
 
 pub returns : goal.returns
 returns c = going_ends c.loop-j.invariant c.loop-j-test.false

@@ -1,9 +1,5 @@
-use Rattle.std.proofs.Common.{◌-◌}
 use Rattle.sound.specs.KeyedLaws.{Testing, rows_test}
 use Rattle.sound.proofs.keys_of.Given as goal
 
 abbrev pub invariant-loop-i : goal.invariant-loop-i
 invariant-loop-i l = Testing l.rows l.held (rows_test l.rows l.held) l.i l.highs l.lows
-
-abbrev pub decreases-loop-i : goal.decreases-loop-i
-decreases-loop-i l = l.held - l.i

@@ -1,9 +1,5 @@
-use Rattle.std.proofs.Common.{◌-◌}
 use Rattle.sound.specs.LegLaws.{Placing, pairs_test}
 use Rattle.sound.proofs.places_of.Given as goal
 
 abbrev pub invariant-loop-i : goal.invariant-loop-i
 invariant-loop-i l = Placing l.highs l.lows l.held l.pairs l.paired (pairs_test l.highs l.lows l.held l.pairs l.paired) l.i l.firsts l.seconds
-
-abbrev pub decreases-loop-i : goal.decreases-loop-i
-decreases-loop-i l = l.paired - l.i

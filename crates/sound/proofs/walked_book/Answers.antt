@@ -1,4 +1,6 @@
-use Rattle.std.proofs.Common.{ap, not, sym, ◌∙◌}
+use Rattle.std.proofs.Common.{ap, not, refl, sym, ◌∙◌}
+use Rattle.sound.specs.KeyedLaws.{keys_gone}
+use Rattle.sound.specs.LegLaws.{places_gone}
 use Rattle.sound.specs.CheckedLaws.{head_broken, room_broken, few_held, few_paired, rows_broken, legs_broken, walkable, lots_broken, walk_whole}
 use Rattle.sound.proofs.walked_book.Goals as goal
 
@@ -8,23 +10,23 @@ returns-then-not-head_sound c = c.not_walked.ensures ∙ head_broken _ (sym c.he
 pub returns-then-not-room_sound : goal.returns-then-not-room_sound
 returns-then-not-room_sound c = c.not_walked-then-not-room_sound.ensures ∙ room_broken _ (sym c.head_sound.ensures ∙ c.if-not-head_sound.false) c.room_sound.ensures (ap not c.if-not-room_sound.true)
 
-pub keys_of-keys-requires : goal.keys_of-keys-requires
-keys_of-keys-requires c = few_held c.args.b (sym c.head_sound.ensures ∙ c.if-not-head_sound.false) c.room_sound.ensures (ap not c.if-not-room_sound.false)
+pub keys_of-requires : goal.keys_of-requires
+keys_of-requires c = few_held c.args.b (sym c.head_sound.ensures ∙ c.if-not-head_sound.false) c.room_sound.ensures (ap not c.if-not-room_sound.false)
 
-pub returns-then-not-keys : goal.returns-then-not-keys
-returns-then-not-keys c = c.not_walked-then-not-keys.ensures ∙ rows_broken _ (sym c.head_sound.ensures ∙ c.if-not-head_sound.false) c.room_sound.ensures (ap not c.if-not-room_sound.false) c.keys_of-keys.ensures c.if-not-keys.true
+pub returns-in_default : goal.returns-in_default
+returns-in_default c = c.not_walked-in_default.ensures ∙ rows_broken _ (sym c.head_sound.ensures ∙ c.if-not-head_sound.false) c.room_sound.ensures (ap not c.if-not-room_sound.false) c.keys_of.ensures (keys_gone c.keys_of.result c.in_default.not-Some)
 
-pub places_of-places-requires : goal.places_of-places-requires
-places_of-places-requires c = few_paired c.args.b (sym c.head_sound.ensures ∙ c.if-not-head_sound.false) c.room_sound.ensures (ap not c.if-not-room_sound.false)
+pub places_of-requires : goal.places_of-requires
+places_of-requires c = few_paired c.args.b (sym c.head_sound.ensures ∙ c.if-not-head_sound.false) c.room_sound.ensures (ap not c.if-not-room_sound.false)
 
-pub returns-then-not-places : goal.returns-then-not-places
-returns-then-not-places c = c.not_walked-then-not-places.ensures ∙ legs_broken _ (sym c.head_sound.ensures ∙ c.if-not-head_sound.false) c.room_sound.ensures (ap not c.if-not-room_sound.false) c.keys_of-keys.ensures c.if-not-keys.false c.places_of-places.ensures c.if-not-places.true
+pub returns-in_default-places_of : goal.returns-in_default-places_of
+returns-in_default-places_of c = c.not_walked-in_default-places_of.ensures ∙ legs_broken _ (sym c.head_sound.ensures ∙ c.if-not-head_sound.false) c.room_sound.ensures (ap not c.if-not-room_sound.false) (rw c.in-Some.is at c.keys_of.ensures) refl c.places_of.ensures (places_gone c.places_of.result c.in_default-places_of.not-Some)
 
 pub free_lots-c-requires : goal.free_lots-c-requires
-free_lots-c-requires c = walkable c.args.b (sym c.head_sound.ensures ∙ c.if-not-head_sound.false) c.room_sound.ensures (ap not c.if-not-room_sound.false) c.keys_of-keys.ensures c.if-not-keys.false c.places_of-places.ensures c.if-not-places.false
+free_lots-c-requires c = walkable c.args.b (sym c.head_sound.ensures ∙ c.if-not-head_sound.false) c.room_sound.ensures (ap not c.if-not-room_sound.false) (rw c.in-Some.is at c.keys_of.ensures) refl (rw c.in-Some-places_of.is at c.places_of.ensures) refl
 
 pub returns-then-not-c : goal.returns-then-not-c
-returns-then-not-c c = c.not_walked-then-not-c.ensures ∙ lots_broken _ (sym c.head_sound.ensures ∙ c.if-not-head_sound.false) c.room_sound.ensures (ap not c.if-not-room_sound.false) c.keys_of-keys.ensures c.if-not-keys.false c.places_of-places.ensures c.if-not-places.false c.free_lots-c.ensures c.if-not-c.true
+returns-then-not-c c = c.not_walked-then-not-c.ensures ∙ lots_broken _ (sym c.head_sound.ensures ∙ c.if-not-head_sound.false) c.room_sound.ensures (ap not c.if-not-room_sound.false) (rw c.in-Some.is at c.keys_of.ensures) refl (rw c.in-Some-places_of.is at c.places_of.ensures) refl c.free_lots-c.ensures c.if-not-c.true
 
 pub returns : goal.returns
-returns c = walk_whole _ (sym c.head_sound.ensures ∙ c.if-not-head_sound.false) c.room_sound.ensures (ap not c.if-not-room_sound.false) c.keys_of-keys.ensures c.if-not-keys.false c.places_of-places.ensures c.if-not-places.false c.free_lots-c.ensures c.if-not-c.false
+returns c = walk_whole _ (sym c.head_sound.ensures ∙ c.if-not-head_sound.false) c.room_sound.ensures (ap not c.if-not-room_sound.false) (rw c.in-Some.is at c.keys_of.ensures) refl (rw c.in-Some-places_of.is at c.places_of.ensures) refl c.free_lots-c.ensures c.if-not-c.false
