@@ -178,9 +178,16 @@ fn make_with(b: &mut Book, m: Make, first: bool) -> Result<(), Refusal>
     ensures { outcome (number_in result) b.new ≡ pick first (make_answer m.account (pick (ltb m.identity 256) m.identity 0) m.day) (outcome 3 b.old) }
 {
     laws::ensure(first, Refusal::OutOfOrder)?;
-    *b = rows::empty_book(0, b'0', 20000101);
-    *b = moves::make(m.account, byte_of(m.identity), m.day)?;
-    Ok(())
+    match moves::make(m.account, byte_of(m.identity), m.day) {
+        Ok(new) => {
+            *b = new;
+            Ok(())
+        }
+        Err(refused) => {
+            *b = refused.book;
+            Err(refused.refusal)
+        }
+    }
 }
 
 fn open_with(b: &mut Book, l: Lots) -> Result<(), Refusal>

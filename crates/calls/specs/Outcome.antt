@@ -3,6 +3,7 @@ use Rattle.std.specs.Prelude.{ℕ, Result, Ok, Err}
 use Rattle.laws.specs.declared.Refusal.{Refusal}
 use Rattle.laws.specs.Refusals.{number_of}
 use Rattle.rows.specs.declared.Book.{Book}
+use Rattle.calls.specs.declared.RefusedMake.{RefusedMake}
 
 pub record Outcome : Type 0 where
   pub number : ℕ
@@ -12,3 +13,8 @@ pub record Outcome : Type 0 where
 abbrev pub outcome_in : Book → Result Book Refusal → Outcome
 outcome_in b (Ok new) = record { number = 0; book = new }
 outcome_in b (Err r) = record { number = number_of r; book = b }
+
+-- what a make answers: a refusal has a book of its own
+abbrev pub made_in : Result Book RefusedMake → Outcome
+made_in (Ok new) = record { number = 0; book = new }
+made_in (Err r) = record { number = number_of r.refusal; book = r.book }

@@ -73,10 +73,10 @@ use Rattle.exports.specs.contracts as exports_stated
 use Rattle.exports.proofs as exports
 use Rattle.evidence.specs.OneAnswer.{OneAnswer}
 use Rattle.evidence.specs.OneAnswerLaws.{by_equation, by_equations, by_writing, by_number, by_image, by_images, one_head, one_figures}
-use Rattle.calls.specs.Outcome.{outcome_in}
+use Rattle.calls.specs.Outcome.{outcome_in, made_in}
 use Rattle.levels.specs.Levels.{answer_of}
 use Rattle.levels.specs.LevelLaws.{one_levels}
-use Rattle.calls.specs.OutcomeLaws.{one_outcome}
+use Rattle.calls.specs.OutcomeLaws.{one_outcome, one_make}
 use Rattle.reading.specs.Reading.{answer_in}
 use Rattle.reading.specs.AnswerLaws.{one_reading}
 use Rattle.printed.specs.Printed.{printed_in}
@@ -324,7 +324,7 @@ sound_is_sound κs a r s e f = by_equation
 
 -- moves
 pub moves_make : OneAnswer moves_stated.make.ended moves.make.Reads.Learnt
-moves_make κs a r s e f = by_image (outcome_in _) (one_outcome _)
+moves_make κs a r s e f = by_image made_in one_make
 
 pub moves_open : OneAnswer moves_stated.open.ended moves.open.Reads.Learnt
 moves_open κs a r s e f = by_image (outcome_in _) (one_outcome _)

@@ -1,10 +1,12 @@
 -- Document 01, "How much each contract has to say": the idle program "that reports a line number or lot count it made up", shut out by "the table above, and the
 -- holdings themselves". Each theorem is of every program that meets the contract of `reading::read`, the last of `checking::check`. (The other idle programs: `history` and `same_answer`, IdleLaws.)
-use Rattle.std.specs.Prelude.{◌≡◌, refl, true, ℕ, ◌<◌}
+use Rattle.std.specs.Prelude.{◌≡◌, refl, true, ℕ, ◌<◌, Result, Ok, Err}
 use Rattle.std.proofs.Math.Path.{ap, sym}
 use Rattle.std.proofs.Common.{◌∙◌}
 use mathlib.Core.List.{List, [], ◌∷◌}
 use native.Mathlib.Omega.{arith}
+use Rattle.laws.specs.Refusals.{number_of}
+use Rattle.laws.specs.RefusalLaws.{refusal_positive}
 use Rattle.laws.specs.Text.{byte}
 use Rattle.laws.specs.Bytes.{same_bytes}
 use Rattle.laws.specs.Checks.{first_failing, all_pass}
@@ -21,7 +23,9 @@ use Rattle.history.proofs.IdleLaws.{seen}
 use Rattle.lines.specs.Pieces.{lf, split_on, list_of, fields_of}
 use Rattle.printed.specs.Printed.{text_of}
 use Rattle.book_lines.specs.Lines.{line_in, line_from, book_line, checks_by}
-use Rattle.reading.specs.Reading.{Answer, line_checks, refused_at, read_as, read_lines, read_book}
+use Rattle.reading.specs.Reading.{Answer, line_checks, refused_at, read_as, read_lines, read_book, answer_in}
+use Rattle.reading.specs.declared.RefusedText.{RefusedText}
+use Rattle.reading.specs.AnswerLaws.{one_reading}
 use Rattle.trip.proofs.TripLaws.{read_print}
 use Rattle.lines.specs.Fields.{has_form, cells_of}
 use Rattle.checking.specs.Reading.{Verdict}
@@ -79,6 +83,28 @@ module _ (program : List ℕ → Answer) (meets : (t : List ℕ) → program t �
       let none = seen.none_opened in
       let two = seen.one_opened_lem in
       omega arith
+
+-- The same of every program that answers a book or a refusal, as `reading::read` does, and meets its contract.
+fault_line : (line : ℕ → ℕ) (x : Result Book RefusedText) → ((f : RefusedText) → x ≡ Err f → f.line ≡ line (number_of f.refusal)) → 0 < (answer_in x).number → (answer_in x).line ≡ line (answer_in x).number
+unfolding read_as
+fault_line line (Ok b) h p = absurd (omega arith)
+fault_line line (Err f) h p = h f refl
+
+book_lots : (lots : Series → Side → ℕ) (x : Result Book RefusedText) → ((b : Book) (s : Series) (d : Side) → x ≡ Ok b → free b s d ≡ lots s d)
+    → (s : Series) (d : Side) → (answer_in x).number ≡ 0 → free (answer_in x).book s d ≡ lots s d
+unfolding read_as
+book_lots lots (Ok b) h s d p = h b s d refl
+book_lots lots (Err f) h s d p = let q = refusal_positive f.refusal in absurd (omega arith)
+
+module _ (program : List ℕ → Result Book RefusedText) (meets : (t : List ℕ) → answer_in (program t) ≡ read_book t) where
+  pub fault_made_up : (line : ℕ → ℕ) → ((t : List ℕ) (f : RefusedText) → program t ≡ Err f → f.line ≡ line (number_of f.refusal)) → ⊥
+  fault_made_up line e = made_up_line (λ (t : List ℕ). answer_in (program t)) meets line (λ t p. fault_line line (program t) (e t) p)
+
+  pub book_told : (b : Book) → sound_book b ≡ true → program (text_of b) ≡ Ok b
+  book_told b h = one_reading (program (text_of b)) (Ok b) (meets (text_of b) ∙ read_print b h)
+
+  pub lots_made_up : (lots : Series → Side → ℕ) → ((t : List ℕ) (b : Book) (s : Series) (d : Side) → program t ≡ Ok b → free b s d ≡ lots s d) → ⊥
+  lots_made_up lots e = made_up_lots (λ (t : List ℕ). answer_in (program t)) meets lots (λ t s d p. book_lots lots (program t) (e t) s d p)
 
 -- Of every program that meets the contract of `checking::check`: a sheet's line is not made up from the number either.
 no_sheet : check_text [] ≡ record { number = 1; line = 0 }

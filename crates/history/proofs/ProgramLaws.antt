@@ -10,7 +10,8 @@ use Rattle.laws.specs.Checks.{all_pass}
 use Rattle.rows.specs.declared.Book.{Book}
 use Rattle.calls.specs.Outcome.{Outcome}
 use Rattle.calls.specs.Calls.{make_answer}
-use Rattle.history.specs.History.{BookCall, step, checks_of, made, run, accepted}
+use Rattle.history.specs.History.{BookCall, open_lots, close_lots, pair_units, split_units, turn_day, step, checks_of, made, run, accepted}
+use Rattle.history.specs.Code.{Functions, Meet, program_of}
 use Rattle.history.specs.Demand.{AsCounted, Demand3}
 use Rattle.history.proofs.HistoryLaws.{history, demand_3}
 use Rattle.history.specs.SameLaws.{same_counts}
@@ -51,6 +52,19 @@ module _ (program : Book → BookCall → Outcome) (meets : (b : Book) (c : Book
         accepts_only = λ b c e. demand_3.accepts_only b c (rw (meets b c) at e);
         refused_keeps = λ b c e. rw (meets b c) (demand_3.refused_keeps b c e);
       }
+
+-- So functions that meet the contracts of the code are a program that meets demand 3.
+module _ (f : Functions) (meet : Meet f) where
+  pub meets_step : (b : Book) (c : BookCall) → program_of f b c ≡ step b c
+  unfolding program_of step
+  meets_step b (open_lots s d lots) = meet.open_meets b s d lots
+  meets_step b (close_lots s d lots) = meet.close_meets b s d lots
+  meets_step b (pair_units p) = meet.pair_meets b p
+  meets_step b (split_units p) = meet.split_meets b p
+  meets_step b (turn_day day) = meet.turn_meets b day
+
+  pub functions_suffice : Demand3 (program_of f)
+  functions_suffice = contracts_suffice (program_of f) meets_step
 
 -- A program that meets demand 3.
 accepts_as : (program : Book → BookCall → Outcome) → Demand3 program → (b : Book) (c : BookCall) → eqb (program b c).number 0 ≡ all_pass (checks_of b c)

@@ -1,4 +1,5 @@
 pub mod History
+pub mod Code
 pub mod Counts
 pub mod Demand
 pub mod AnswerLaws

@@ -7,11 +7,12 @@ ghost use Rattle.laws.specs.Refusals.{number_in};
 ghost use Rattle.lists.specs.Sorted.{kept};
 ghost use Rattle.lists.specs.Kept.{Keeping};
 ghost use Rattle.rows.specs.Rows.{holding_rank, no_lots, lots_on, added, empty_holding};
-ghost use Rattle.rows.specs.Book.{holdings_of, with_holdings, no_book};
-ghost use Rattle.calls.specs.Outcome.{outcome_in};
+ghost use Rattle.rows.specs.Book.{holdings_of, with_holdings};
+ghost use Rattle.calls.specs.Outcome.{outcome_in, made_in};
 ghost use Rattle.calls.specs.Calls.{make_checks, make_answer, held_of, open_checks, opened, open_answer, close_checks, closed, close_answer, turn_checks, turn_answer};
 ghost use Rattle.calls.specs.Facts.{Opens, Closes};
 
+use calls::RefusedMake;
 use laws::Refusal;
 use rows::{Book, Holding};
 use series::{Series, Side};
@@ -60,13 +61,18 @@ fn make_check(account: u32, identity: u8, day: u32) -> Result<(), Refusal>
     laws::ensure(dates::is_day(day), Refusal::NoSuchDate)
 }
 
-// Make an empty book.
-#[tactic(auto, using(calls::proofs::AnswerLaws::make_refused, calls::proofs::AnswerLaws::make_accepted))]
-pub fn make(account: u32, identity: u8, day: u32) -> Result<Book, Refusal>
-    ensures { outcome_in no_book result ≡ make_answer account identity day }
+// Make an empty book. A refusal gives the one of account 0, code 0, day 20000101.
+#[tactic(auto, using(calls::proofs::AnswerLaws::make_refused, calls::proofs::AnswerLaws::make_accepted), unfolding(rows::specs::Book::no_book))]
+pub fn make(account: u32, identity: u8, day: u32) -> Result<Book, RefusedMake>
+    ensures { made_in result ≡ make_answer account identity day }
 {
-    make_check(account, identity, day)?;
-    Ok(rows::empty_book(account, identity, day))
+    match make_check(account, identity, day) {
+        Ok(()) => Ok(rows::empty_book(account, identity, day)),
+        Err(refusal) => Err(RefusedMake {
+            refusal,
+            book: rows::empty_book(0, b'0', 20000101),
+        }),
+    }
 }
 
 #[tactic(auto, using(calls::specs::NumberLaws::open_says), unfolding(rows::specs::Book::holdings_of))]

@@ -94,7 +94,7 @@ fn answer_make<W: Write>(out: &mut W, line: &[u8]) -> io::Result<()> {
         fields::letter(line, 2),
         fields::value(line, 3),
     );
-    put_answer(out, made.map(|_| ()))
+    put_answer(out, made.map(|_| ()).map_err(|refused| refused.refusal))
 }
 
 pub fn answer<W: Write>(out: &mut W, line: &[u8]) -> io::Result<()> {

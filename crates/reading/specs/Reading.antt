@@ -2,7 +2,6 @@
 -- reported".
 use Rattle.std.specs.Prelude.{Bool, true, List, [], ◌∷◌, ◌++◌, ℕ, suc, leb, ltb, eqb, length, Result, Ok, Err}
 use Rattle.laws.specs.Truth.{pick, both}
-use Rattle.laws.specs.declared.Fault.{Fault}
 use Rattle.laws.specs.Refusals.{number_of}
 use Rattle.laws.specs.Checks.{Check, first_failing, all_pass}
 use Rattle.lists.specs.Sorted.{ascending}
@@ -13,6 +12,7 @@ use Rattle.rules.specs.Lots.{first_leg, second_leg}
 use Rattle.calls.specs.Calls.{leg_free}
 use Rattle.lines.specs.Pieces.{lf, Pieces, one, more, split_on}
 use Rattle.book_lines.specs.Lines.{Line, head, holding, pair, formless, book_line, checks_by}
+use Rattle.reading.specs.declared.RefusedText.{RefusedText}
 
 -- What the book that the lines before it say has to tell a line: a row stands in its order behind those before it, a
 -- holding before any pair
@@ -73,6 +73,6 @@ read_book text =
     pick (leb (length text) 16384) (pick (eqb (length text) 0) (refused_at 1 0) (read_lines 0 no_book (split_on lf text))) (refused_at 2 0)
 
 -- the answer that a read gives
-abbrev pub answer_in : Result Book Fault → Answer
+abbrev pub answer_in : Result Book RefusedText → Answer
 answer_in (Ok b) = read_as b
-answer_in (Err f) = refused_at (number_of f.refusal) f.line
+answer_in (Err f) = record { number = number_of f.refusal; line = f.line; book = f.book }

@@ -10,14 +10,27 @@ ghost use Rattle.lines.specs.Pieces.{lf, split_on};
 ghost use Rattle.reading.specs.Reading.{answer_in, refused_at, read_lines, read_book};
 ghost use Rattle.reading.specs.Facts.{slot, slot_at, legs_at, less_legs};
 
-use laws::{Fault, Refusal};
+use laws::Refusal;
 use rows::{Book, Holding, Pair};
 use series::{Series, Side};
 
-fn refused(refusal: Refusal, line: u32) -> Result<Book, Fault>
+// Why a text is no book and which line is at fault, 0 where no single one is; and the empty book, as which it reads.
+#[derive(Clone, Copy)]
+pub struct RefusedText {
+    pub refusal: Refusal,
+    pub line: u32,
+    pub book: Book,
+}
+
+#[tactic(auto, unfolding(crate::specs::Reading::refused_at, rows::specs::Book::no_book))]
+fn refused(refusal: Refusal, line: u32) -> Result<Book, RefusedText>
     ensures { answer_in result ≡ refused_at (number_of refusal) line }
 {
-    Err(Fault { refusal, line })
+    Err(RefusedText {
+        refusal,
+        line,
+        book: rows::empty_book(0, b'0', 20000101),
+    })
 }
 
 // Where the lots of a line's two legs stand, and whether they are free.
@@ -126,7 +139,7 @@ fn enter(highs: &mut [u64], lows: &mut [u64], free: &mut [u32], row: usize, h: H
 }
 
 // Line after line. With the book go the keys and free lots of its rows, and the last of them.
-fn read_lines(t: &[u8]) -> Result<Book, Fault>
+fn read_lines(t: &[u8]) -> Result<Book, RefusedText>
     requires { length t.now ≤ 16384 }
     ensures { answer_in result ≡ read_lines 0 no_book (split_on lf t.now) }
 {
@@ -197,7 +210,7 @@ fn read_lines(t: &[u8]) -> Result<Book, Fault>
 }
 
 // Reads a book: any bytes.
-pub fn read(t: &[u8]) -> Result<Book, Fault>
+pub fn read(t: &[u8]) -> Result<Book, RefusedText>
     ensures { answer_in result ≡ read_book t.now }
 {
     if 16384 < t.len() {
