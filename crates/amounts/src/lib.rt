@@ -2,6 +2,7 @@
 #![tactic(auto)]
 
 ghost use Rattle.std.specs.Prelude.{◌≡◌, true, ◌≤◌};
+ghost use Rattle.levels.specs.Each.{AtEach, AtBoth, AtThree};
 ghost use Rattle.levels.specs.Levels.{per_level, both_levels, flat, rates_of};
 ghost use Rattle.levels.specs.Ranges.{AtMost, rates_fit};
 ghost use Rattle.laws.specs.Truth.{pick};
@@ -60,6 +61,31 @@ pub struct Terms {
     pub c: Levels,
 }
 
+// What f makes of each level. Private, with the next one, as in levels: public ones would ask of their caller that f may be called, and no
+// public function asks anything of its caller.
+fn at_each<F: Fn(u64) -> u64>(l: Levels, f: F) -> Levels
+    requires { AtEach (F.pre f) l }
+    ensures { AtBoth (F.post f) l result }
+{
+    Levels {
+        clearing: f(l.clearing),
+        maintenance: f(l.maintenance),
+        initial: f(l.initial),
+    }
+}
+
+// What f makes of the two at each level.
+fn at_both<F: Fn(u64, u64) -> u64>(l: Levels, m: Levels, f: F) -> Levels
+    requires { AtBoth (F.pre f) l m }
+    ensures { AtThree (F.post f) l m result }
+{
+    Levels {
+        clearing: f(l.clearing, m.clearing),
+        maintenance: f(l.maintenance, m.maintenance),
+        initial: f(l.initial, m.initial),
+    }
+}
+
 // Whether the numbers of an O line are in their ranges.
 #[tactic(auto, unfolding(crate::specs::Lines::index_fits))]
 pub fn index_fits(o: IndexLine) -> bool
@@ -106,7 +132,7 @@ fn portions_of(price: u64, multiplier: u64, rates: Levels) -> Levels
     requires { ValueFits price multiplier × AtMost rate_limit rates }
     ensures { (result ≡ per_level (portion price multiplier) rates) × AtMost exact_limit result }
 {
-    rates.map(|rate| portion_of(price, multiplier, rate))
+    at_each(rates, |rate| portion_of(price, multiplier, rate))
 }
 
 // Dollars as exact amounts, and exact amounts as dollars, at each level.
@@ -115,13 +141,13 @@ fn exact_dollars(l: Levels) -> Levels
     requires { AtMost 100000000 l }
     ensures { (result ≡ per_level dollars l) × AtMost exact_limit result }
 {
-    l.map(|n| n * 100000000)
+    at_each(l, |n| n * 100000000)
 }
 
 fn to_dollars(l: Levels) -> Levels
     ensures { result ≡ per_level to_dollar l }
 {
-    l.map(rounding::to_dollar)
+    at_each(l, rounding::to_dollar)
 }
 
 // The dollars of price x multiplier.
@@ -160,7 +186,7 @@ fn singles(premium: u64, out: u64, a: Levels, b: Levels) -> Levels
     requires { (premium ≤ exact_limit) × (AtMost exact_limit a × AtMost exact_limit b) }
     ensures { result ≡ both_levels (single premium out) a b }
 {
-    a.zip_with(b, |a, b| single_at(premium, out, a, b))
+    at_both(a, b, |a, b| single_at(premium, out, a, b))
 }
 
 // A single short option of an index.

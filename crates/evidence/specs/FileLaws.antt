@@ -1,4 +1,4 @@
--- An exception to document 01, "How much each contract has to say": the contract of `files::load` does not determine its answer.
+-- The one exception of document 01, "How much each contract has to say": the contract of `files::load` does not determine its answer.
 use Rattle.std.specs.Prelude.{◌≡◌, refl, true, false, ℕ, Option, Some, None, is_some, Ok, Err}
 use Rattle.std.proofs.Common.{ap, arith}
 use Rattle.std.specs.declared.fs.files.Files

@@ -2,7 +2,7 @@
 #![tactic(auto)]
 
 ghost use Rattle.std.specs.Prelude.{◌≡◌, ◌≤◌, ◌<◌};
-ghost use Rattle.levels.specs.Each.{AtEach, AtBoth, AtThree};
+ghost use Rattle.levels.specs.Each.{AtEach, AtBoth};
 ghost use Rattle.levels.specs.Levels.{answer_of, per_level, flat, levels_of, part_of, raised, rates_of, half_of, fixed_levels, stock_rates};
 ghost use Rattle.levels.specs.Ranges.{levels_fit, clearing_fits, part_fits, fixed_fits, rate_fits, disposition_fits, rates_fit};
 
@@ -16,29 +16,16 @@ pub struct Levels {
     pub initial: u64,
 }
 
-impl Levels {
-    // What f makes of each level.
-    pub fn map<F: Fn(u64) -> u64>(self, f: F) -> Levels
-        requires { AtEach (F.pre f) self }
-        ensures { AtBoth (F.post f) self result }
-    {
-        Levels {
-            clearing: f(self.clearing),
-            maintenance: f(self.maintenance),
-            initial: f(self.initial),
-        }
-    }
-
-    // What f makes of the two at each level.
-    pub fn zip_with<F: Fn(u64, u64) -> u64>(self, other: Levels, f: F) -> Levels
-        requires { AtBoth (F.pre f) self other }
-        ensures { AtThree (F.post f) self other result }
-    {
-        Levels {
-            clearing: f(self.clearing, other.clearing),
-            maintenance: f(self.maintenance, other.maintenance),
-            initial: f(self.initial, other.initial),
-        }
+// What f makes of each level. It is private, and amounts and units have their own: a public one would ask of its caller that f may
+// be called, and no public function asks anything of its caller.
+fn at_each<F: Fn(u64) -> u64>(l: Levels, f: F) -> Levels
+    requires { AtEach (F.pre f) l }
+    ensures { AtBoth (F.post f) l result }
+{
+    Levels {
+        clearing: f(l.clearing),
+        maintenance: f(l.maintenance),
+        initial: f(l.initial),
     }
 }
 
@@ -127,7 +114,7 @@ fn part_of(l: Levels, part: u32) -> Levels
     requires { 0 < part }
     ensures { result ≡ part_of l part }
 {
-    l.map(|x| x / part as u64)
+    at_each(l, |x| x / part as u64)
 }
 
 // A fixed future's margin, from the clearing amount of the full-size future and the part that it is of it.
@@ -167,5 +154,5 @@ pub fn stock_rates(rate: u32, disposition: u32) -> Result<Levels, Refusal>
 pub fn halves(l: Levels) -> Levels
     ensures { result ≡ per_level half_of l }
 {
-    l.map(|x| x / 2)
+    at_each(l, |x| x / 2)
 }

@@ -4,6 +4,7 @@
 ghost use Rattle.std.specs.Prelude.{◌≡◌, ◌+◌, ◌*◌, ◌≤◌, max};
 ghost use Rattle.laws.specs.Truth.{within};
 ghost use Rattle.laws.specs.Refusals.{number_in};
+ghost use Rattle.levels.specs.Each.{AtEach, AtBoth, AtThree};
 ghost use Rattle.levels.specs.Levels.{answer_of, both_levels};
 ghost use Rattle.levels.specs.Ranges.{AtMost};
 ghost use Rattle.amounts.specs.Limits.{lot_limit, premium_limit, c_limit};
@@ -15,6 +16,31 @@ use amounts::{Lot, Terms};
 use laws::Refusal;
 use levels::Levels;
 use std::cmp::Ordering;
+
+// What f makes of each level. Private, with the next one, as in levels: public ones would ask of their caller that f may be called, and no
+// public function asks anything of its caller.
+fn at_each<F: Fn(u64) -> u64>(l: Levels, f: F) -> Levels
+    requires { AtEach (F.pre f) l }
+    ensures { AtBoth (F.post f) l result }
+{
+    Levels {
+        clearing: f(l.clearing),
+        maintenance: f(l.maintenance),
+        initial: f(l.initial),
+    }
+}
+
+// What f makes of the two at each level.
+fn at_both<F: Fn(u64, u64) -> u64>(l: Levels, m: Levels, f: F) -> Levels
+    requires { AtBoth (F.pre f) l m }
+    ensures { AtThree (F.post f) l m result }
+{
+    Levels {
+        clearing: f(l.clearing, m.clearing),
+        maintenance: f(l.maintenance, m.maintenance),
+        initial: f(l.initial, m.initial),
+    }
+}
 
 // A side of a ratio: 1 to 100.
 fn ratio_fits(n: u32) -> bool
@@ -95,9 +121,12 @@ fn mixed_margin(call: Lot, put: Lot, c: Levels) -> Levels
     requires { LotFacts call × (LotFacts put × AtMost c_limit c) }
     ensures { result ≡ mixed_margin call put c }
 {
-    call.margin
-        .zip_with(put.margin, |m, n| mixed_at(m, call.premium, n, put.premium))
-        .zip_with(c, |m, c| m + c)
+    let mixed = at_both(
+        call.margin,
+        put.margin,
+        |m, n| mixed_at(m, call.premium, n, put.premium),
+    );
+    at_both(mixed, c, |m, c| m + c)
 }
 
 // Kind 5: r1 futures margins and r2 premium values, level by level.
@@ -106,14 +135,14 @@ fn future_option_margin(r1: u32, margin: Levels, r2: u32, premium: u64) -> Level
     requires { ((r1 ≤ 100) × AtMost lot_limit margin) × ((r2 ≤ 100) × (premium ≤ premium_limit)) }
     ensures { result ≡ future_option_margin r1 margin r2 premium }
 {
-    margin.map(|m| r1 as u64 * m + r2 as u64 * premium)
+    at_each(margin, |m| r1 as u64 * m + r2 as u64 * premium)
 }
 
 // The larger of two margins, level by level.
 fn larger_of(l: Levels, m: Levels) -> Levels
     ensures { result ≡ both_levels max l m }
 {
-    l.zip_with(m, |x, y| x.max(y))
+    at_both(l, m, |x, y| x.max(y))
 }
 
 // The formula of the kind.
