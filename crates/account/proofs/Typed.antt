@@ -12,4 +12,4 @@ use Rattle.sheets.proofs.Sheet.TheLaws as laws
 
 -- There are 676 places for S rows.
 pub stocks_long : (sheet : Sheet) {vs : List Val} → Is (row type.the_type) sheet vs → length sheet.stocks ≡ 676
-stocks_long sheet g = (owed type.the_type laws.the_laws sheet _ g).1.1.1.1.0.1.0.1
+stocks_long sheet g = (owed type.the_type laws.the_laws sheet _ g).1.1.1.1.1.0.1.0.1

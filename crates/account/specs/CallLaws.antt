@@ -12,11 +12,12 @@ use Rattle.laws.specs.CheckLaws.{none_fails}
 use Rattle.levels.specs.Levels.{flat}
 use Rattle.rows.specs.declared.Book.{Book}
 use Rattle.rules.specs.Rules.{sound_book}
-use Rattle.sheets.specs.Sheet.{Sheet}
+use Rattle.sheets.specs.declared.Sheet.{Sheet}
 use Rattle.sheets.specs.View.{sheet_view}
 use Rattle.quotes.specs.Quotes.{on_sheet}
+use Rattle.account.specs.declared.Margin.{Margin}
 use Rattle.account.specs.Needed.{needed_by}
-use Rattle.account.specs.Margin.{Margin, account_margin, margin_checks, margin_number, margin_line, margin_on}
+use Rattle.account.specs.Margin.{account_margin, margin_checks, margin_number, margin_line, margin_on}
 
 -- The sheet's own number refuses only where it is not 0, so it refuses like the others.
 numbers : (n : ℕ) (sound day needed : Bool) → eqb (pick sound (pick (eqb n 0) (pick day (pick needed 0 14) 13) n) 16) 0 ≡ both sound (both (eqb n 0) (both day (both needed true)))

@@ -8,4 +8,3 @@ pub mod LegLaws
 pub mod AccountLaws
 pub mod CallLaws
 pub mod TextLaws
-pub mod MarginLaws

@@ -1,9 +1,7 @@
 -- Document 01, "Rates and amounts": "Then multiply by lots or units ... The account's margin is the sum"; and "Numbers a call may
 -- answer": "Margin: the sheet's own number, 13, 14", behind 16.
-use Rattle.std.specs.Prelude.{Bool, true, List, [], ◌∷◌, ℕ, ◌+◌, ◌*◌, eqb, Result, Ok, Err}
+use Rattle.std.specs.Prelude.{Bool, true, List, [], ◌∷◌, ℕ, ◌+◌, ◌*◌, eqb}
 use Rattle.laws.specs.Truth.{pick}
-use Rattle.laws.specs.declared.Fault.{Fault}
-use Rattle.laws.specs.Refusals.{number_of}
 use Rattle.laws.specs.Search.{every_line}
 use Rattle.laws.specs.Checks.{Check, ◌unless◌, first_failing}
 use Rattle.lists.specs.Sorted.{sum_of}
@@ -16,10 +14,11 @@ use Rattle.rows.specs.declared.Book.{Book}
 use Rattle.rows.specs.Book.{holdings_of, pairs_of}
 use Rattle.rules.specs.Lots.{free_rows}
 use Rattle.rules.specs.Rules.{sound_book}
-use Rattle.sheets.specs.Sheet.{Sheet}
+use Rattle.sheets.specs.declared.Sheet.{Sheet}
 use Rattle.checking.specs.Reading.{read_sheet}
 use Rattle.sheets.specs.View.{View, sheet_view}
 use Rattle.quotes.specs.Quotes.{on_sheet, quote_of}
+use Rattle.account.specs.declared.Margin.{Margin}
 use Rattle.account.specs.Needed.{charged_lots, needed_by}
 
 -- so many times an amount, at each level
@@ -69,12 +68,6 @@ margin_number b sheet = first_failing (margin_checks b sheet)
 unfoldable pub margin_line : Book → Sheet → ℕ
 margin_line b sheet = pick (sound_book b) (pick (eqb sheet.number 0) 0 sheet.line) 0
 
--- the three amounts, or the number and line of a refusal and zeros
-pub record Margin : Type 0 where
-  pub number : ℕ
-  pub line : ℕ
-  pub levels : Levels
-
 -- the number and line, and zeros; or 0, 0 and the margin
 unfoldable pub margin_on : Book → Sheet → Margin
 margin_on b sheet =
@@ -85,8 +78,3 @@ margin_on b sheet =
 -- a book, and any text as sheet
 unfoldable pub margin_text : Book → List ℕ → Margin
 margin_text b text = margin_on b (read_sheet text)
-
--- the margin that an answer gives
-abbrev pub margin_in : Result Levels Fault → Margin
-margin_in (Ok l) = record { number = 0; line = 0; levels = l }
-margin_in (Err f) = record { number = number_of f.refusal; line = f.line; levels = flat 0 }

@@ -11,8 +11,9 @@ use Rattle.series.specs.declared.Series.{Series}
 use Rattle.amounts.specs.declared.IndexLine.{IndexLine}
 use Rattle.amounts.specs.declared.StockLine.{StockLine}
 use Rattle.rows.specs.declared.Holding.{Holding}
-use Rattle.sheets.specs.Sheet.{Sheet, future_place, option_place, stock_place, nearest, row_at, price_among, prices_at, clearing_on, index_on, stock_on, price_on}
+use Rattle.sheets.specs.declared.Sheet.{Sheet}
 use Rattle.sheets.specs.Rows.{nothing, no_index, no_stock}
+use Rattle.sheets.specs.Sheet.{future_place, option_place, stock_place, nearest, row_at, price_among, prices_at, clearing_on, index_on, stock_on, price_on}
 use Rattle.sheets.specs.SeekLaws.{filled_says}
 use Rattle.sheets.specs.TableLaws.{row_inside}
 use Rattle.sound.specs.Walk.{no_row, Keyed}

@@ -1,27 +1,37 @@
-// The account's margin: a book and a day's sheet, both handed in; three amounts, or why they are refused.
+// The account's margin: a book and a day's sheet, both handed in; three amounts, or the number and line of a refusal.
 #![tactic(auto)]
 
 ghost use Rattle.std.specs.Prelude.{◌≡◌, true, false, ℕ, ◌≤◌, ◌<◌};
-ghost use Rattle.laws.specs.Refusals.{number_of};
 ghost use Rattle.levels.specs.Levels.{flat};
 ghost use Rattle.levels.specs.Ranges.{AtMost};
 ghost use Rattle.sound.specs.Walk.{no_row, Keyed};
-ghost use Rattle.sheets.specs.Sheet.{sheet_in};
 ghost use Rattle.sheets.specs.View.{sheet_view};
 ghost use Rattle.account.specs.Needed.{charged_lots};
-ghost use Rattle.account.specs.Margin.{times, plus, margin_on, margin_in};
+ghost use Rattle.account.specs.Margin.{times, plus, margin_on};
 ghost use Rattle.account.specs.Walk.{Priced, QuotesAre, all_below, sum_below, part_as, part_of, row_limit, holding_ready, holding_comes, pair_ready, pair_comes, ready_at, comes_at, pair_ready_at, pair_comes_at, PairStands};
 
-use laws::{Fault, Refusal};
+use laws::Refusal;
 use levels::Levels;
 use quotes::Quote;
 use rows::{Book, Holding, Pair};
 use sheets::Sheet;
 
-fn refused(refusal: Refusal, line: u32) -> Result<Levels, Fault>
-    ensures { margin_in result ≡ record { number = number_of refusal; line = line; levels = flat 0 } }
+// The three amounts, or the number and line of a refusal and zeros.
+#[derive(Clone, Copy)]
+pub struct Margin {
+    pub number: u8,
+    pub line: u32,
+    pub levels: Levels,
+}
+
+fn refused(number: u8, line: u32) -> Margin
+    ensures { result ≡ record { number = number; line = line; levels = flat 0 } }
 {
-    Err(Fault { refusal, line })
+    Margin {
+        number,
+        line,
+        levels: levels::same_at_all(0),
+    }
 }
 
 // So many times an amount, and the sum of two, at each level.
@@ -54,8 +64,8 @@ fn quotes_of(
     sheet: Sheet,
     prices: [Option<u32>; 128],
 ) -> [Quote; 128]
-    requires { (held ≤ 128) × Priced (sheet_view (sheet_in sheet)) rows held prices }
-    ensures { QuotesAre (sheet_view (sheet_in sheet)) rows held result }
+    requires { (held ≤ 128) × Priced (sheet_view sheet) rows held prices }
+    ensures { QuotesAre (sheet_view sheet) rows held result }
 {
     let mut quotes = [quotes::no_quote(); 128];
     for i in 0..held {
@@ -79,7 +89,7 @@ fn quote_rows(
     lows: [u64; 128],
 ) -> [Quote; 128]
     requires { (held ≤ 128) × Keyed no_row rows held highs lows }
-    ensures { QuotesAre (sheet_view (sheet_in sheet)) rows held result }
+    ensures { QuotesAre (sheet_view sheet) rows held result }
 {
     let prices = sheets::prices_of(sheet.prices, sheet.quoted, &highs, &lows, held);
     quotes_of(rows, held, sheet, prices)
@@ -182,25 +192,30 @@ fn pairs_margin(
 }
 
 // The margin of a book on a sheet that was read.
-pub fn margin_on(b: Book, sheet: Sheet) -> Result<Levels, Fault>
-    ensures { margin_in result ≡ margin_on b (sheet_in sheet) }
+pub fn margin_on(b: Book, sheet: Sheet) -> Margin
+    ensures { result ≡ margin_on b sheet }
 {
     let w = sound::walked_book(b);
     if !w.sound {
-        return refused(Refusal::NotSound, 0);
+        return refused(Refusal::NotSound.number(), 0);
     }
-    if let Some(fault) = sheet.fault {
-        return refused(fault.refusal, fault.line);
+    if sheet.number != 0 {
+        return refused(sheet.number, sheet.line);
     }
     if sheet.day != b.day {
-        return refused(Refusal::WrongDay, 0);
+        return refused(Refusal::WrongDay.number(), 0);
     }
     let quotes = quote_rows(b.holdings, b.held, sheet, w.highs, w.lows);
     let Some(loose) = holdings_margin(w.free, b.held, quotes) else {
-        return refused(Refusal::LineMissing, 0);
+        return refused(Refusal::LineMissing.number(), 0);
     };
     let Some(tied) = pairs_margin(true, b.pairs, b.paired, quotes, w.firsts, w.seconds) else {
-        return refused(Refusal::LineMissing, 0);
+        return refused(Refusal::LineMissing.number(), 0);
     };
-    Ok(add(loose, tied))
+    let levels = add(loose, tied);
+    Margin {
+        number: 0,
+        line: 0,
+        levels,
+    }
 }

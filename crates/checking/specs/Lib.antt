@@ -6,4 +6,3 @@ pub mod SheetLaws
 pub mod TurnLaws
 pub mod StepLaws
 pub mod QuoteLaws
-pub mod VerdictLaws

@@ -15,7 +15,7 @@ use Rattle.sheets.specs.declared.FutureRow.{FutureRow}
 use Rattle.sheets.specs.declared.OptionRow.{OptionRow}
 use Rattle.sheets.specs.declared.StockRow.{StockRow}
 use Rattle.sheets.specs.declared.PriceRow.{PriceRow}
-use Rattle.sheets.specs.Sheet.{Sheet}
+use Rattle.sheets.specs.declared.Sheet.{Sheet}
 use Rattle.sheets.specs.Rows.{future_codes, option_codes, two_capitals}
 use Rattle.sheet_lines.specs.Lines.{Line, sheet_line, rank, among, own_checks, line_checks}
 

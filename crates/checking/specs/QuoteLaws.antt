@@ -15,7 +15,7 @@ use Rattle.lines.specs.declared.Cell.{Cell}
 use Rattle.lines.specs.Pieces.{tab, lf, stops}
 use Rattle.lines.specs.Fields.{field_at, nature_of}
 use Rattle.lines.specs.StopLaws.{tab_stops}
-use Rattle.sheets.specs.Sheet.{Sheet}
+use Rattle.sheets.specs.declared.Sheet.{Sheet}
 use Rattle.sheet_lines.specs.Lines.{head_form, future_form, option_form, stock_form, price_form, cell, figure, letter_in}
 use Rattle.sheet_lines.specs.Facts.{asked_table, place_for, fields_for, number_for}
 use Rattle.price_lines.specs.Heads.{Head, Figures, filled, strike_at, price_at, head_at, next_figures}

@@ -1,9 +1,7 @@
 -- Document 01, "Text" (sheet) and "Numbers a call may answer": a sheet is judged line by line; "The first bad line is the one reported";
 -- "Line 1,025 of a sheet is 2, unread". A sheet that passes is its rows.
-use Rattle.std.specs.Prelude.{List, [], ◌∷◌, ◌++◌, ℕ, suc, leb, ltb, eqb, length, Result, Ok, Err}
+use Rattle.std.specs.Prelude.{List, [], ◌∷◌, ◌++◌, ℕ, suc, leb, ltb, eqb, length}
 use Rattle.laws.specs.Truth.{pick}
-use Rattle.laws.specs.declared.Fault.{Fault}
-use Rattle.laws.specs.Refusals.{number_of}
 use Rattle.laws.specs.Search.{gathered}
 use Rattle.laws.specs.Checks.{first_failing, all_pass}
 use Rattle.lines.specs.Pieces.{lf, Pieces, one, more, split_on}
@@ -11,8 +9,10 @@ use Rattle.sheets.specs.declared.FutureRow.{FutureRow}
 use Rattle.sheets.specs.declared.OptionRow.{OptionRow}
 use Rattle.sheets.specs.declared.StockRow.{StockRow}
 use Rattle.sheets.specs.declared.PriceRow.{PriceRow}
-use Rattle.sheets.specs.Sheet.{Sheet, laid_out}
+use Rattle.sheets.specs.declared.Sheet.{Sheet}
 use Rattle.sheets.specs.Rows.{Rows}
+use Rattle.sheets.specs.Sheet.{laid_out}
+use Rattle.checking.specs.declared.Verdict.{Verdict}
 use Rattle.sheet_lines.specs.Lines.{Line, head, future, option, stock, price, formless, sheet_line, line_checks}
 
 -- The rows that lines say, group by group.
@@ -97,15 +97,5 @@ sheet_of j = laid_out j.number j.line (rows_of j.lines)
 unfoldable pub read_sheet : List ℕ → Sheet
 read_sheet text = sheet_of (judged text)
 
--- 0 and 0, or the number of the first check that fails and its line
-pub record Verdict : Type 0 where
-  pub number : ℕ
-  pub line : ℕ
-
 unfoldable pub check_text : List ℕ → Verdict
 check_text text = record { number = (judged text).number; line = (judged text).line }
-
--- the verdict that an answer gives
-abbrev pub verdict_in : Result Unit Fault → Verdict
-verdict_in (Ok u) = record { number = 0; line = 0 }
-verdict_in (Err f) = record { number = number_of f.refusal; line = f.line }

@@ -35,7 +35,8 @@ use Rattle.sheets.specs.declared.FutureRow.{FutureRow}
 use Rattle.sheets.specs.declared.OptionRow.{OptionRow}
 use Rattle.sheets.specs.declared.StockRow.{StockRow}
 use Rattle.sheets.specs.declared.PriceRow.{PriceRow}
-use Rattle.sheets.specs.Sheet.{Sheet, future_place, option_place, stock_place, stock_at, laid_out}
+use Rattle.sheets.specs.declared.Sheet.{Sheet}
+use Rattle.sheets.specs.Sheet.{future_place, option_place, stock_place, stock_at, laid_out}
 use Rattle.sheets.specs.Rows.{no_rows, future_codes, option_codes, two_capitals, found, nothing, no_index, no_stock, no_price, clearing_in, index_in, stock_in}
 use Rattle.sheets.specs.TableLaws.{futures_differ, options_differ, table_set, found_last, found_others, tabled_set, place_below, stock_at_place}
 use Rattle.sheet_lines.specs.Lines.{Line, head, future, option, stock, price, formless, rank, among, is_quoted, own_checks, is_head, checks_by, line_checks}

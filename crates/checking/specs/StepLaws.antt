@@ -32,7 +32,8 @@ use Rattle.sheets.specs.declared.FutureRow.{FutureRow}
 use Rattle.sheets.specs.declared.OptionRow.{OptionRow}
 use Rattle.sheets.specs.declared.StockRow.{StockRow}
 use Rattle.sheets.specs.declared.PriceRow.{PriceRow}
-use Rattle.sheets.specs.Sheet.{Sheet, future_place, option_place, stock_place, laid_out}
+use Rattle.sheets.specs.declared.Sheet.{Sheet}
+use Rattle.sheets.specs.Sheet.{future_place, option_place, stock_place, laid_out}
 use Rattle.sheets.specs.Rows.{found, no_rows}
 use Rattle.amounts.specs.declared.IndexLine.{IndexLine}
 use Rattle.sheet_lines.specs.Lines.{Line, head, future, option, stock, price, formless, figure, future_from, option_from, stock_from, price_from, letter_in, form_of, said, sheet_line, rank, own_checks, checks_by, line_checks}

@@ -5,18 +5,25 @@ ghost use Rattle.std.specs.Prelude.{◌≡◌, [], ◌≤◌, length, set};
 ghost use Rattle.lines.specs.Pieces.{lf, split_on};
 ghost use Rattle.laws.specs.Refusals.{number_of};
 ghost use Rattle.sheets.specs.Rows.{found, no_rows};
-ghost use Rattle.sheets.specs.Sheet.{future_place, option_place, laid_out, sheet_in};
-ghost use Rattle.checking.specs.Reading.{judge_lines, sheet_of, read_sheet, check_text, verdict_in};
+ghost use Rattle.sheets.specs.Sheet.{future_place, option_place, laid_out};
+ghost use Rattle.checking.specs.Reading.{judge_lines, sheet_of, read_sheet, check_text};
 
 use amounts::IndexLine;
-use laws::{Fault, Refusal};
+use laws::Refusal;
 use sheets::{FutureRow, OptionRow, Sheet};
+
+// 0 and 0, or the number of the first check that fails and its line.
+#[derive(Clone, Copy)]
+pub struct Verdict {
+    pub number: u8,
+    pub line: u32,
+}
 
 // The sheet of a refused text.
 fn refused(refusal: Refusal, line: u32) -> Sheet
-    ensures { sheet_in result ≡ laid_out (number_of refusal) line no_rows }
+    ensures { result ≡ laid_out (number_of refusal) line no_rows }
 {
-    sheets::empty_sheet(Some(Fault { refusal, line }))
+    sheets::empty_sheet(refusal.number(), line)
 }
 
 // The F and O rows with one more.
@@ -46,11 +53,11 @@ fn with_option(rows: [IndexLine; 4], row: OptionRow) -> [IndexLine; 4]
 // at once by their head and figures.
 fn read_lines(t: &[u8]) -> Sheet
     requires { length t.now ≤ 65536 }
-    ensures { sheet_in result ≡ sheet_of (judge_lines [] (split_on lf t.now)) }
+    ensures { result ≡ sheet_of (judge_lines [] (split_on lf t.now)) }
 {
     let none = lines::no_cell();
     let table = sheet_lines::asked_table();
-    let mut sheet = sheets::empty_sheet(None);
+    let mut sheet = sheets::empty_sheet(0, 0);
     let mut last: u8 = 0;
     let mut before = [none; 12];
     let mut cells = [none; 12];
@@ -130,7 +137,7 @@ fn read_lines(t: &[u8]) -> Sheet
 
 // Reads a sheet: any bytes.
 pub fn read(t: &[u8]) -> Sheet
-    ensures { sheet_in result ≡ read_sheet t.now }
+    ensures { result ≡ read_sheet t.now }
 {
     if 65536 < t.len() {
         return refused(Refusal::OutOfRange, 0);
@@ -142,11 +149,12 @@ pub fn read(t: &[u8]) -> Sheet
 }
 
 // Checks a sheet: any bytes.
-pub fn check(t: &[u8]) -> Result<(), Fault>
-    ensures { verdict_in result ≡ check_text t.now }
+pub fn check(t: &[u8]) -> Verdict
+    ensures { result ≡ check_text t.now }
 {
-    match read(t).fault {
-        None => Ok(()),
-        Some(fault) => Err(fault),
+    let sheet = read(t);
+    Verdict {
+        number: sheet.number,
+        line: sheet.line,
     }
 }

@@ -29,9 +29,10 @@ use Rattle.put.specs.LineLaws.{line_is}
 use Rattle.printed.specs.Printed.{text_of, Printed, print_checks, print_answer, print_exit}
 use Rattle.printed.specs.PrintedLaws.{text_fits}
 use Rattle.reading.specs.Reading.{Answer, read_book}
-use Rattle.sheets.specs.Sheet.{Sheet}
+use Rattle.sheets.specs.declared.Sheet.{Sheet}
 use Rattle.checking.specs.Reading.{read_sheet}
-use Rattle.account.specs.Margin.{Margin, margin_on, margin_text}
+use Rattle.account.specs.declared.Margin.{Margin}
+use Rattle.account.specs.Margin.{margin_on, margin_text}
 use Rattle.exports.specs.Exports.{coded, read_coded, print_coded, printed_of, printed_exit, line_coded, line_exit}
 use Rattle.exports.specs.Script.{code_said, identity_said, nature_said, series_said, side_said, pair_said, call_said, book_after, numbers_after}
 use Rattle.exports.specs.Runs.{script_number, by_run, run_coded, run_numbers, run_exit}

@@ -3,7 +3,7 @@
 use Rattle.std.specs.Prelude.{List, ◌++◌, ℕ, ◌+◌, ◌*◌, eqb, leb, length, drop}
 use Rattle.laws.specs.Truth.{pick}
 use Rattle.reading.specs.Reading.{Answer}
-use Rattle.checking.specs.Reading.{Verdict}
+use Rattle.checking.specs.declared.Verdict.{Verdict}
 use Rattle.printed.specs.Printed.{Printed, print_answer, print_exit}
 
 -- a number above 32 bits, and a line or a length below

@@ -40,10 +40,8 @@ pub fn sillauger_read(text: &[u8]) -> u64
 pub fn sillauger_check(sheet: &[u8]) -> u64
     ensures { result ≡ check_coded (check_text sheet.now) }
 {
-    match checking::check(sheet) {
-        Ok(()) => code_of(0, 0),
-        Err(fault) => code_of(fault.refusal.number(), fault.line),
-    }
+    let v = checking::check(sheet);
+    code_of(v.number, v.line)
 }
 
 // What a print answers: number and length.

@@ -8,7 +8,8 @@ use Rattle.digits.specs.Digits.{fixed, numerals}
 use Rattle.lines.specs.Pieces.{lf, split_on}
 use Rattle.rows.specs.declared.Book.{Book}
 use Rattle.reading.specs.Reading.{Answer}
-use Rattle.sheets.specs.Sheet.{Sheet, laid_out}
+use Rattle.sheets.specs.declared.Sheet.{Sheet}
+use Rattle.sheets.specs.Sheet.{laid_out}
 use Rattle.checking.specs.Reading.{Judged, rows_of, judged, sheet_of, read_sheet}
 use Rattle.put.specs.Output.{refusal_text}
 use Rattle.put.specs.LineLaws.{field_fits, last_fits, line_fits, fixed_few, numerals_most, refusal_fits}

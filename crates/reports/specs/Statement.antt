@@ -9,7 +9,8 @@ use Rattle.put.specs.Output.{refusal_text}
 use Rattle.levels.specs.declared.Levels.{Levels}
 use Rattle.rows.specs.declared.Book.{Book}
 use Rattle.reading.specs.Reading.{Answer, read_book}
-use Rattle.account.specs.Margin.{Margin, margin_text}
+use Rattle.account.specs.declared.Margin.{Margin}
+use Rattle.account.specs.Margin.{margin_text}
 
 -- `R account day clearing maintenance initial`
 unfoldable pub result_text : ℕ → ℕ → Levels → List ℕ

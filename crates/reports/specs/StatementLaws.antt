@@ -10,7 +10,8 @@ use Rattle.put.specs.LineLaws.{field_fits, last_fits, line_fits, fixed_few, nume
 use Rattle.levels.specs.declared.Levels.{Levels}
 use Rattle.rows.specs.declared.Book.{Book}
 use Rattle.reading.specs.Reading.{Answer, read_book}
-use Rattle.account.specs.Margin.{Margin, margin_text}
+use Rattle.account.specs.declared.Margin.{Margin}
+use Rattle.account.specs.Margin.{margin_text}
 use Rattle.reports.specs.Statement.{result_text, margin_line_text, read_line_text, statement_text}
 
 -- How long the lines can be.

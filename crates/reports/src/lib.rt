@@ -8,14 +8,14 @@ ghost use Rattle.put.specs.Put.{laid, end_of};
 ghost use Rattle.put.specs.Output.{output_of};
 ghost use Rattle.reading.specs.Reading.{read_book};
 ghost use Rattle.checking.specs.Reading.{judged};
-ghost use Rattle.account.specs.Margin.{margin_text, margin_in};
+ghost use Rattle.account.specs.Margin.{margin_text};
 ghost use Rattle.call_lines.specs.Work.{answers_in};
 ghost use Rattle.reports.specs.Reports.{book_text, counts_text, book_report, sheet_report};
 ghost use Rattle.reports.specs.Counts.{lines_with};
 ghost use Rattle.reports.specs.Statement.{result_text, margin_line_text, statement_text};
 ghost use Rattle.reports.specs.Desk.{line_answer, refusals_from, answers_text, desk_text, desk_of};
 
-use laws::Fault;
+use account::Margin;
 use levels::Levels;
 use put::Output;
 use rows::Book;
@@ -90,8 +90,8 @@ pub fn of_sheet(text: &[u8]) -> Output
     ensures { result ≡ output_of (sheet_report (judged text.now)) }
 {
     let sheet = checking::read(text);
-    if let Some(fault) = sheet.fault {
-        return put::refusal(fault.refusal.number(), fault.line);
+    if sheet.number != 0 {
+        return put::refusal(sheet.number, sheet.line);
     }
     let futures = lines_with(text, b'F');
     let options = lines_with(text, b'O');
@@ -124,18 +124,18 @@ fn result(account: u32, day: u32, l: Levels) -> Output
 }
 
 // The line of a margin call on a book.
-pub fn line_of(b: Book, m: Result<Levels, Fault>) -> Output
-    ensures { result ≡ output_of (margin_line_text b (margin_in m)) }
+pub fn line_of(b: Book, m: Margin) -> Output
+    ensures { result ≡ output_of (margin_line_text b m) }
 {
-    match m {
-        Ok(levels) => result(b.account, b.day, levels),
-        Err(why) => put::refusal(why.refusal.number(), why.line),
+    if m.number != 0 {
+        return put::refusal(m.number, m.line);
     }
+    result(b.account, b.day, m.levels)
 }
 
 // The margin of a book on a text as sheet.
-pub fn margin_of(b: Book, text: &[u8]) -> Result<Levels, Fault>
-    ensures { margin_in result ≡ margin_text b text.now }
+pub fn margin_of(b: Book, text: &[u8]) -> Margin
+    ensures { result ≡ margin_text b text.now }
 {
     account::margin_on(b, checking::read(text))
 }

@@ -10,7 +10,8 @@ use Rattle.levels.specs.Levels.{flat}
 use Rattle.rows.specs.declared.Book.{Book}
 use Rattle.rows.specs.Book.{book_of, empty_book}
 use Rattle.lines.specs.Pieces.{lf}
-use Rattle.account.specs.Margin.{Margin, margin_text}
+use Rattle.account.specs.declared.Margin.{Margin}
+use Rattle.account.specs.Margin.{margin_text}
 use Rattle.same_answer.specs.Sample.{sample_book, sample_sheet, nothing_held}
 use Rattle.same_answer.specs.SampleLaws.{sampled}
 

@@ -33,12 +33,13 @@ use Rattle.rules.specs.RuleLaws.{holding_is, pair_is, counts_are, sound_is, hold
 use Rattle.units.specs.Units.{unit_checks, unit_number}
 use Rattle.units.specs.LimitLaws.{unit_is}
 use Rattle.units.specs.UnitLaws.{account_limit, futures_most, options_most, pair_most}
-use Rattle.sheets.specs.Sheet.{Sheet}
+use Rattle.sheets.specs.declared.Sheet.{Sheet}
 use Rattle.sheets.specs.View.{View, sheet_view}
 use Rattle.quotes.specs.Quotes.{on_sheet, quote_of}
 use Rattle.quotes.specs.QuoteLaws.{lot_most, future_most_lot}
+use Rattle.account.specs.declared.Margin.{Margin}
 use Rattle.account.specs.Needed.{charged_lots, needed_by_holding, needed_by_pair, needed_by}
-use Rattle.account.specs.Margin.{Margin, times, holding_margin, pair_margin, sum_levels, pays_c, account_margin, margin_checks, margin_number, margin_on}
+use Rattle.account.specs.Margin.{times, holding_margin, pair_margin, sum_levels, pays_c, account_margin, margin_checks, margin_number, margin_on}
 use Rattle.account.specs.RowLaws.{pair_ready_lem, unit_taken}
 use Rattle.account.specs.CallLaws.{margin_by_number}
 

@@ -34,12 +34,13 @@ use Rattle.calls.specs.CallLaws.{outcome_has}
 use Rattle.calls.specs.PassLaws.{open_passes}
 use Rattle.calls.specs.OpenLaws.{open_sound}
 use Rattle.calls.specs.PairedLaws.{one_series}
-use Rattle.sheets.specs.Sheet.{Sheet}
+use Rattle.sheets.specs.declared.Sheet.{Sheet}
 use Rattle.checking.specs.Reading.{read_sheet}
 use Rattle.sheets.specs.View.{View, sheet_view}
 use Rattle.quotes.specs.Quotes.{SheetLine, on_sheet}
+use Rattle.account.specs.declared.Margin.{Margin}
 use Rattle.account.specs.Needed.{needed_by_holding, needed_by_pair, needed_by}
-use Rattle.account.specs.Margin.{Margin, plus, holding_margin, pair_margin, sum_levels, pays_c, account_margin, margin_checks, margin_number, margin_line, margin_on, margin_text}
+use Rattle.account.specs.Margin.{plus, holding_margin, pair_margin, sum_levels, pays_c, account_margin, margin_checks, margin_number, margin_line, margin_on, margin_text}
 use Rattle.same_answer.specs.FreeLaws.{needed_same, margin_same, free_needs, free_costs}
 
 -- The call goes by four things of the book: that it is sound, its day, whether its lines stand, and what it comes to.

@@ -6,7 +6,7 @@ use Rattle.rows.specs.declared.Book.{Book}
 use Rattle.rules.specs.Rules.{sound_book}
 use Rattle.history.specs.Demand.{Alike}
 use Rattle.history.specs.SameLaws.{same_book}
-use Rattle.sheets.specs.Sheet.{Sheet}
+use Rattle.sheets.specs.declared.Sheet.{Sheet}
 use Rattle.account.specs.Margin.{margin_on, margin_text}
 
 module _ (a b : Book) (x : sound_book a ≡ true) (y : sound_book b ≡ true) (alike : Alike a b) where

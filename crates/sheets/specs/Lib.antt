@@ -5,4 +5,3 @@ pub mod Seeking
 pub mod SeekLaws
 pub mod TableLaws
 pub mod LookupLaws
-pub mod FaultLaws

@@ -1,10 +1,8 @@
 -- A sheet as it is held: F, O and S rows at their codes' places, Q rows in order of their keys, which are searched by halving; unused
 -- room is empty (document 01, "Text": "A sheet has at most 65,536 bytes and 1,024 lines"). LookupLaws: what is found there is the row
 -- with that key.
-use Rattle.std.specs.Prelude.{List, [], ◌∷◌, map, ℕ, zero, suc, ◌+◌, ◌-◌, ◌*◌, min, eqb, ltb, get_or, length, take, set, replicate, Option, Some, None}
+use Rattle.std.specs.Prelude.{List, [], ◌∷◌, map, ℕ, zero, suc, ◌+◌, ◌-◌, ◌*◌, min, eqb, ltb, get_or, length, take, set, replicate, Option}
 use Rattle.laws.specs.Truth.{pick}
-use Rattle.laws.specs.declared.Fault.{Fault}
-use Rattle.laws.specs.Refusals.{number_of}
 use Rattle.laws.specs.Text.{byte}
 use Rattle.laws.specs.Bytes.{same_bytes}
 use Rattle.laws.specs.Search.{first_where}
@@ -17,42 +15,8 @@ use Rattle.amounts.specs.declared.IndexLine.{IndexLine}
 use Rattle.amounts.specs.declared.StockLine.{StockLine}
 use Rattle.sheets.specs.declared.StockRow.{StockRow}
 use Rattle.sheets.specs.declared.PriceRow.{PriceRow}
-use Rattle.sheets.specs.declared.Sheet as held
+use Rattle.sheets.specs.declared.Sheet.{Sheet}
 use Rattle.sheets.specs.Rows.{Rows, future_codes, option_codes, two_capitals, found, nothing, no_index, no_stock, no_price, clearing_in, index_in}
-
--- What a text reads as: its number and line, 0 and 0 where it is a sheet; the day; the rows, each at its place.
-pub record Sheet : Type 0 where
-  pub number : ℕ
-  pub line : ℕ
-  pub day : ℕ
-  pub futures : List (Option ℕ)
-  pub options : List IndexLine
-  pub stocks : List StockLine
-  pub prices : List PriceRow
-  pub quoted : ℕ
-
--- the number and the line of a fault, 0 and 0 where there is none
-abbrev pub fault_number : Option Fault → ℕ
-fault_number None = 0
-fault_number (Some f) = number_of f.refusal
-
-abbrev pub fault_line : Option Fault → ℕ
-fault_line None = 0
-fault_line (Some f) = f.line
-
--- what a sheet stands for
-abbrev pub sheet_in : held.Sheet → Sheet
-sheet_in s =
-    record {
-      number = fault_number s.fault;
-      line = fault_line s.fault;
-      day = s.day;
-      futures = s.futures;
-      options = s.options;
-      stocks = s.stocks;
-      prices = s.prices;
-      quoted = s.quoted;
-    }
 
 -- how many codes stand before this one; all of them where it is none of them
 unfoldable pub place_in : List (List ℕ) → List ℕ → ℕ

@@ -3,8 +3,9 @@ use Rattle.std.specs.Prelude.{List, ℕ, Option}
 use Rattle.series.specs.declared.Series.{Series}
 use Rattle.amounts.specs.declared.IndexLine.{IndexLine}
 use Rattle.amounts.specs.declared.StockLine.{StockLine}
-use Rattle.sheets.specs.Sheet.{Sheet, clearing_on, index_on, stock_on, price_on}
+use Rattle.sheets.specs.declared.Sheet.{Sheet}
 use Rattle.sheets.specs.Rows.{Rows, clearing_in, index_in, stock_in, price_in}
+use Rattle.sheets.specs.Sheet.{clearing_on, index_on, stock_on, price_on}
 
 -- the clearing amount of a future, the O line of an option, the S line of a stock, the price of a series
 pub record View : Type 0 where

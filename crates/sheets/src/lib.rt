@@ -4,10 +4,9 @@
 ghost use Rattle.std.specs.Prelude.{◌≡◌, [], ◌∷◌, ℕ, ◌+◌, ◌≤◌, ◌<◌, get_or, take, replicate};
 ghost use Rattle.halving.specs.Halving.{key_at, middle};
 ghost use Rattle.sheets.specs.Rows.{two_capitals, nothing, found, no_index, no_stock, no_price, no_rows};
-ghost use Rattle.sheets.specs.Sheet.{place_in, future_place, option_place, stock_place, nearest, row_at, row_key, price_among, filled, prices_at, laid_out, fault_number, fault_line, sheet_in};
+ghost use Rattle.sheets.specs.Sheet.{place_in, future_place, option_place, stock_place, nearest, row_at, row_key, price_among, filled, prices_at, laid_out};
 
 use amounts::{IndexLine, StockLine};
-use laws::Fault;
 use series::{Halves, Nature, Series};
 use std::cmp::Ordering;
 
@@ -39,11 +38,12 @@ pub struct PriceRow {
     pub price: u32,
 }
 
-// What a text reads as. Its fault, where it is no sheet; the day; the F, O and S rows, each at its code's place; the Q rows in order
-// with a count.
+// What a text reads as. Its number and line, 0 and 0 where it is a sheet; the day; the F, O and S rows, each at its code's place; the
+// Q rows in order with a count.
 #[derive(Clone, Copy)]
 pub struct Sheet {
-    pub fault: Option<Fault>,
+    pub number: u8,
+    pub line: u32,
     pub day: u32,
     pub futures: [Option<u32>; 8],
     pub options: [IndexLine; 4],
@@ -94,11 +94,12 @@ fn no_price() -> PriceRow
 }
 
 // A sheet of no rows, which a refused text reads as.
-pub fn empty_sheet(fault: Option<Fault>) -> Sheet
-    ensures { sheet_in result ≡ laid_out (fault_number fault) (fault_line fault) no_rows }
+pub fn empty_sheet(number: u8, line: u32) -> Sheet
+    ensures { result ≡ laid_out number line no_rows }
 {
     Sheet {
-        fault,
+        number,
+        line,
         day: 0,
         futures: [None; 8],
         options: [no_index(); 4],

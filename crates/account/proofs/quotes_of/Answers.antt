@@ -1,6 +1,5 @@
 use Rattle.std.proofs.Common.{arith, refl, ◌≡◌}
 use Rattle.sheets.specs.Rows.{no_stock}
-use Rattle.sheets.specs.Sheet.{sheet_in}
 use Rattle.account.specs.QuotedLaws.{quotes_start, quotes_on, row_quoted}
 use Rattle.account.proofs.Typed.{stocks_long}
 use Rattle.account.proofs.quotes_of.Goals as goal
@@ -25,7 +24,7 @@ unfolding no_stock
 loop-i-preserved c =
     let long = stocks_long c.args.sheet c.well_formed.1.1.0 in
     quotes_on c.loop-i.invariant (omega (arith, c.requires.0, c.loop-i-test.true))
-    (row_quoted (sheet_in c.args.sheet) _ long c.product_of-product.ensures c.clearing_of-clearing.ensures c.index_of-index.ensures c.stock_place-at.ensures c.nearest_place.ensures c.stock_at-stock.ensures (c.requires.1.prices_are c.loop-i.i c.loop-i-test.true) c.quote_for.ensures)
+    (row_quoted c.args.sheet _ long c.product_of-product.ensures c.clearing_of-clearing.ensures c.index_of-index.ensures c.stock_place-at.ensures c.nearest_place.ensures c.stock_at-stock.ensures (c.requires.1.prices_are c.loop-i.i c.loop-i-test.true) c.quote_for.ensures)
 
 pub returns : goal.returns
 returns c =

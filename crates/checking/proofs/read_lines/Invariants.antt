@@ -2,17 +2,16 @@ use Rattle.std.proofs.Common.{length, ◌-◌, ◌≡◌}
 use Rattle.checking.specs.StepLaws.{AtLine, InRow}
 use Rattle.checking.specs.QuoteLaws.{Headed}
 use Rattle.price_lines.specs.Heads.{head_of}
-use Rattle.sheets.specs.Sheet.{sheet_in}
 use Rattle.checking.proofs.read_lines.Given as goal
 
 abbrev pub invariant-fields : goal.invariant-fields
-invariant-fields l = InRow l.t (sheet_in l.sheet) l.last l.before l.line l.at l.initial.stop l.letter l.cells l.k l.stop
+invariant-fields l = InRow l.t l.sheet l.last l.before l.line l.at l.initial.stop l.letter l.cells l.k l.stop
 
 abbrev pub decreases-fields : goal.decreases-fields
 decreases-fields l = length l.t - l.stop
 
 abbrev pub invariant-lines : goal.invariant-lines
-invariant-lines l = (AtLine l.t (sheet_in l.sheet) l.last l.before l.line l.at) × ((length l.cells ≡ 12) × Headed l.t (head_of l.head) l.last l.before)
+invariant-lines l = (AtLine l.t l.sheet l.last l.before l.line l.at) × ((length l.cells ≡ 12) × Headed l.t (head_of l.head) l.last l.before)
 
 abbrev pub decreases-lines : goal.decreases-lines
 decreases-lines l = length l.t - l.at
