@@ -3,7 +3,7 @@
 
 ghost use Rattle.std.specs.Prelude.{◌≡◌, ◌%◌, ◌/◌, ◌<◌, ◌≤◌, get_or, length};
 ghost use Rattle.laws.specs.Refusals.{number_in};
-ghost use Rattle.calls.specs.Calls.{outcome};
+ghost use Rattle.calls.specs.Calls.{outcome, make_answer};
 ghost use Rattle.put.specs.Output.{output_of};
 ghost use Rattle.reading.specs.Reading.{read_book};
 ghost use Rattle.checking.specs.Reading.{check_text};
@@ -205,6 +205,22 @@ fn pair_said(words: &[u32], at: usize) -> Pair
     }
 }
 
+// A make on the book: what it makes, or the empty book that a refused make gives.
+fn make_said(b: &mut Book, account: u32, identity: u8, day: u32) -> Result<(), Refusal>
+    ensures { outcome (number_in result) b.new ≡ make_answer account identity day }
+{
+    match moves::make(account, identity, day) {
+        Ok(new) => {
+            *b = new;
+            Ok(())
+        }
+        Err(refused) => {
+            *b = refused.book;
+            Err(refused.refusal)
+        }
+    }
+}
+
 // The call that the words from a place on say, made on the book. A refusal leaves the book as it is; a make that is refused leaves the empty one.
 fn call_said(b: &mut Book, words: &[u32], at: usize) -> Result<(), Refusal>
     requires { at < 9223372036854775000 }
@@ -212,9 +228,8 @@ fn call_said(b: &mut Book, words: &[u32], at: usize) -> Result<(), Refusal>
 {
     let answer = match word(words, at + CALL) {
         0 => {
-            *b = rows::empty_book(0, b'0', 20000101);
             let identity = identity_said(word(words, at + IDENTITY));
-            moves::make(word(words, at + ACCOUNT), identity, word(words, at + DAY))
+            return make_said(b, word(words, at + ACCOUNT), identity, word(words, at + DAY));
         }
         1 => {
             let side = side_said(word(words, at + SIDE));

@@ -200,9 +200,7 @@ fn put_desk(dst: &mut [u8], book: &[u8], calls: &[u8]) -> usize
     }
     match reading::read(book) {
         Ok(b) => put_worked(dst, b, calls),
-        Err(_) if call_lines::makes_book(calls) => {
-            put_worked(dst, rows::empty_book(0, b'0', 20000101), calls)
-        }
+        Err(f) if call_lines::makes_book(calls) => put_worked(dst, f.book, calls),
         Err(f) => put::put_refusal(dst, 0, f.refusal.number(), f.line),
     }
 }

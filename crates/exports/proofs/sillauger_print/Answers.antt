@@ -1,12 +1,11 @@
 use Rattle.std.proofs.Common.{refl, arith, ◌∙◌}
 use Rattle.laws.specs.RefusalLaws.{refusal_positive}
-use Rattle.reading.specs.Reading.{read_as, refused_at}
+use Rattle.reading.specs.Reading.{read_as}
 use Rattle.exports.specs.Exports.{print_coded}
 use Rattle.exports.specs.ExportLaws.{print_few, print_again, text_refused, text_printed}
 use Rattle.exports.proofs.sillauger_print.Goals as goal
 
 pub returns-in-Err : goal.returns-in-Err
-unfolding refused_at
 returns-in-Err c =
     let h = refusal_positive c.in-Err.f.refusal in
     text_refused _ _ _ (rw c.in-Err.is at c.read.ensures) (λ z. omega arith) (rw c.number.ensures at c.code_of.ensures)

@@ -1,4 +1,4 @@
-use Rattle.reading.specs.Reading.{read_as, refused_at}
+use Rattle.reading.specs.Reading.{read_as}
 use Rattle.exports.specs.Exports.{read_coded}
 use Rattle.exports.proofs.sillauger_read.Goals as goal
 
@@ -7,5 +7,5 @@ unfolding read_coded read_as
 returns-in-Ok c = rw (← c.read.ensures, c.in-Ok.is) c.code_of.ensures
 
 pub returns-in-Err : goal.returns-in-Err
-unfolding read_coded refused_at
+unfolding read_coded
 returns-in-Err c = rw (← c.read.ensures, c.in-Err.is) (rw c.number.ensures at c.code_of-in-Err.ensures)

@@ -1,12 +1,11 @@
 use Rattle.std.proofs.Common.{refl, arith}
 use Rattle.laws.specs.RefusalLaws.{refusal_positive}
-use Rattle.reading.specs.Reading.{read_as, refused_at}
+use Rattle.reading.specs.Reading.{read_as}
 use Rattle.exports.specs.Exports.{print_coded}
 use Rattle.exports.specs.ExportLaws.{print_few, cells_enough, run_refused, run_unfit, run_done}
 use Rattle.exports.proofs.sillauger_run.Goals as goal
 
 pub returns-in-Err : goal.returns-in-Err
-unfolding refused_at
 returns-in-Err c =
     let h = refusal_positive c.in-Err.f.refusal in
     run_refused _ _ _ _ _ (rw c.in-Err.is at c.read.ensures) (λ z. omega arith) (rw c.number-in-Err.ensures at c.code_of-in-Err.ensures)

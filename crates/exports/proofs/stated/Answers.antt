@@ -1,12 +1,11 @@
 use Rattle.std.proofs.Common.{refl, arith, ◌∙◌}
 use Rattle.laws.specs.RefusalLaws.{refusal_positive}
-use Rattle.reading.specs.Reading.{read_as, refused_at}
+use Rattle.reading.specs.Reading.{read_as}
 use Rattle.reports.specs.StatementLaws.{book_refused, book_stated}
 use Rattle.exports.specs.ExportLaws.{margin_is}
 use Rattle.exports.proofs.stated.Goals as goal
 
 pub returns-in-Err : goal.returns-in-Err
-unfolding refused_at
 returns-in-Err c =
     let h = refusal_positive c.in-Err.f.refusal in
     rw c.number.ensures at c.refusal.ensures ∙ book_refused _ _ _ (rw c.in-Err.is at c.read.ensures) (λ z. omega arith)

@@ -4,7 +4,7 @@ use Rattle.laws.specs.RefusalLaws.{refusal_positive}
 use Rattle.put.specs.PutLaws.{put_is}
 use Rattle.put.specs.Output.{output_of}
 use Rattle.put.specs.LineLaws.{stated}
-use Rattle.reading.specs.Reading.{read_as, refused_at}
+use Rattle.reading.specs.Reading.{Answer, read_as}
 use Rattle.reports.specs.Reports.{book_report}
 use Rattle.reports.specs.ReportLaws.{book_fits, book_refused, book_told}
 use Rattle.reports.proofs.of_book.Goals as goal
@@ -16,8 +16,8 @@ returns-in-Ok c =
     ∙ ap output_of (book_told (read_as c.in-Ok.b) refl ∙ ap book_report (rw c.in-Ok.is at c.read.ensures))
 
 pub returns-in-Err : goal.returns-in-Err
-unfolding refused_at
 returns-in-Err c =
+    let a : Answer = record { number = number_of c.in-Err.fault.refusal; line = c.in-Err.fault.line; book = c.in-Err.fault.book } in
     let h = refusal_positive c.in-Err.fault.refusal in
     rw c.number.ensures at c.refusal.ensures
-    ∙ ap output_of (book_refused (refused_at (number_of c.in-Err.fault.refusal) c.in-Err.fault.line) (λ z. omega arith) ∙ ap book_report (rw c.in-Err.is at c.read.ensures))
+    ∙ ap output_of (book_refused a (λ z. omega arith) ∙ ap book_report (rw c.in-Err.is at c.read.ensures))

@@ -1,7 +1,6 @@
 use Rattle.std.proofs.Common.{[], refl, arith}
 use Rattle.laws.specs.RefusalLaws.{refusal_positive}
-use Rattle.rows.specs.Book.{no_book}
-use Rattle.reading.specs.Reading.{read_as, refused_at}
+use Rattle.reading.specs.Reading.{read_as}
 use Rattle.reports.specs.DeskLaws.{laid_as, calls_long, read_is_sound, book_read, book_made, book_refused}
 use Rattle.reports.proofs.put_desk.Goals as goal
 
@@ -17,18 +16,13 @@ unfolding read_as
 returns-in-Ok c = laid_as _ _ (book_read _ _ _ (rw c.in-Ok.is at c.read.ensures) c.if-calls-gt65536.false refl) c.put_worked.ensures
 
 pub put_worked-requires-in-Err : goal.put_worked-requires-in-Err
-unfolding refused_at no_book
-put_worked-requires-in-Err c = (rw c.empty_book.ensures (read_is_sound c.args.book.now [] _ (rw c.in-Err.is at c.read.ensures)), (c.if-calls-gt65536.false, c.requires))
+put_worked-requires-in-Err c = (read_is_sound c.args.book.now [] _ (rw c.in-Err.is at c.read.ensures), (c.if-calls-gt65536.false, c.requires))
 
 pub returns-in-Err : goal.returns-in-Err
-unfolding refused_at no_book
-returns-in-Err c =
-    laid_as _ _ (book_made _ _ _ (rw c.in-Err.is at c.read.ensures) c.if-calls-gt65536.false c.makes_book.ensures c.if-makes_book.true)
-    (rw c.empty_book.ensures at c.put_worked-in-Err.ensures)
+returns-in-Err c = laid_as _ _ (book_made _ _ _ (rw c.in-Err.is at c.read.ensures) c.if-calls-gt65536.false c.makes_book.ensures c.if-makes_book.true) c.put_worked-in-Err.ensures
 
 pub returns-in-Err-2 : goal.returns-in-Err-2
-unfolding refused_at no_book
 returns-in-Err-2 c =
-    let h = refusal_positive c.in-Err.field-0.refusal in
+    let h = refusal_positive c.in-Err.f.refusal in
     laid_as _ _ (book_refused _ _ _ (rw c.in-Err.is at c.read.ensures) c.if-calls-gt65536.false c.makes_book.ensures c.if-makes_book.false (λ z. omega arith))
     (rw c.number.ensures at c.put_refusal-in-Err-2.ensures)
