@@ -24,7 +24,7 @@ use Rattle.book_lines.specs.Lines.{line_in, line_from, book_line, checks_by}
 use Rattle.reading.specs.Reading.{Answer, line_checks, refused_at, read_as, read_lines, read_book}
 use Rattle.trip.proofs.TripLaws.{read_print}
 use Rattle.lines.specs.Fields.{has_form, cells_of}
-use Rattle.checking.specs.Reading.{Verdict}
+use Rattle.checking.specs.declared.Verdict.{Verdict}
 use Rattle.sheet_lines.specs.Lines.{letter_in, form_of, said, line_by, sheet_line, own_checks, checks_by as sheetBy, line_from as sheetFrom, line_checks as sheetChecks}
 use Rattle.checking.specs.Reading.{judge_lines, judged, check_text, refused_at as refusedSheet}
 
