@@ -81,12 +81,6 @@ use Rattle.reading.specs.Reading.{answer_in}
 use Rattle.reading.specs.AnswerLaws.{one_reading}
 use Rattle.printed.specs.Printed.{printed_in}
 use Rattle.printed.specs.PrintedLaws.{one_printed}
-use Rattle.sheets.specs.Sheet.{sheet_in}
-use Rattle.sheets.specs.FaultLaws.{one_sheet}
-use Rattle.checking.specs.Reading.{verdict_in}
-use Rattle.checking.specs.VerdictLaws.{one_check}
-use Rattle.account.specs.Margin.{margin_in}
-use Rattle.account.specs.MarginLaws.{one_margin}
 use Rattle.price_lines.specs.Heads.{head_of, figures_of}
 use Rattle.evidence.specs.PriceOf
 
@@ -526,7 +520,7 @@ pub sheets_no_stock : OneAnswer sheets_stated.no_stock.ended sheets.no_stock.Rea
 sheets_no_stock κs a r s e f = by_equation
 
 pub sheets_empty_sheet : OneAnswer sheets_stated.empty_sheet.ended sheets.empty_sheet.Reads.Learnt
-sheets_empty_sheet κs a r s e f = by_image sheet_in one_sheet
+sheets_empty_sheet κs a r s e f = by_equation
 
 pub sheets_future_place : OneAnswer sheets_stated.future_place.ended sheets.future_place.Reads.Learnt
 sheets_future_place κs a r s e f = by_equation
@@ -598,10 +592,10 @@ price_lines_next_figures κs a r s e f = by_image figures_of one_figures
 
 -- checking
 pub checking_read : OneAnswer checking_stated.read.ended checking.read.Reads.Learnt
-checking_read κs a r s e f = by_image sheet_in one_sheet
+checking_read κs a r s e f = by_equation
 
 pub checking_check : OneAnswer checking_stated.check.ended checking.check.Reads.Learnt
-checking_check κs a r s e f = by_image verdict_in one_check
+checking_check κs a r s e f = by_equation
 
 -- quotes
 pub quotes_quote_for : OneAnswer quotes_stated.quote_for.ended quotes.quote_for.Reads.Learnt
@@ -612,11 +606,11 @@ quotes_no_quote κs a r s e f = by_equation
 
 -- account
 pub account_margin_on : OneAnswer account_stated.margin_on.ended account.margin_on.Reads.Learnt
-account_margin_on κs a r s e f = by_image margin_in one_margin
+account_margin_on κs a r s e f = by_equation
 
 -- reports
 pub reports_margin_of : OneAnswer reports_stated.margin_of.ended reports.margin_of.Reads.Learnt
-reports_margin_of κs a r s e f = by_image margin_in one_margin
+reports_margin_of κs a r s e f = by_equation
 
 pub reports_line_of : OneAnswer reports_stated.line_of.ended reports.line_of.Reads.Learnt
 reports_line_of κs a r s e f = by_equation

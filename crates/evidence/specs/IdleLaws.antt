@@ -28,7 +28,7 @@ use Rattle.reading.specs.declared.RefusedText.{RefusedText}
 use Rattle.reading.specs.AnswerLaws.{one_reading}
 use Rattle.trip.proofs.TripLaws.{read_print}
 use Rattle.lines.specs.Fields.{has_form, cells_of}
-use Rattle.checking.specs.Reading.{Verdict}
+use Rattle.checking.specs.declared.Verdict.{Verdict}
 use Rattle.sheet_lines.specs.Lines.{letter_in, form_of, said, line_by, sheet_line, own_checks, checks_by as sheetBy, line_from as sheetFrom, line_checks as sheetChecks}
 use Rattle.checking.specs.Reading.{judge_lines, judged, check_text, refused_at as refusedSheet}
 
