@@ -250,6 +250,38 @@ rows_compare_holdings κs a r s e f = by_equation
 pub rows_compare_pairs : OneAnswer rows_stated.compare_pairs.ended rows.compare_pairs.Reads.Learnt
 rows_compare_pairs κs a r s e f = by_equation
 
+-- a holding as a row
+pub rows_holding_compare : OneAnswer rows_stated.HoldingRow.compare.ended rows.HoldingRow.compare.Reads.Learnt
+rows_holding_compare κs a r s e f = by_equation
+
+pub rows_holding_is_gone : OneAnswer rows_stated.HoldingRow.is_gone.ended rows.HoldingRow.is_gone.Reads.Learnt
+rows_holding_is_gone κs a r s e f = by_equation
+
+pub rows_holding_nothing : OneAnswer rows_stated.HoldingRow.nothing.ended rows.HoldingRow.nothing.Reads.Learnt
+rows_holding_nothing κs a r s e f = by_equation
+
+pub rows_holding_empty : OneAnswer rows_stated.HoldingRow.empty.ended rows.HoldingRow.empty.Reads.Learnt
+rows_holding_empty κs a r s e f = by_equation
+
+pub rows_holding_is_empty : OneAnswer rows_stated.HoldingRow.is_empty.ended rows.HoldingRow.is_empty.Reads.Learnt
+rows_holding_is_empty κs a r s e f = by_equation
+
+-- a pair as a row
+pub rows_pair_compare : OneAnswer rows_stated.PairRow.compare.ended rows.PairRow.compare.Reads.Learnt
+rows_pair_compare κs a r s e f = by_equation
+
+pub rows_pair_is_gone : OneAnswer rows_stated.PairRow.is_gone.ended rows.PairRow.is_gone.Reads.Learnt
+rows_pair_is_gone κs a r s e f = by_equation
+
+pub rows_pair_nothing : OneAnswer rows_stated.PairRow.nothing.ended rows.PairRow.nothing.Reads.Learnt
+rows_pair_nothing κs a r s e f = by_equation
+
+pub rows_pair_empty : OneAnswer rows_stated.PairRow.empty.ended rows.PairRow.empty.Reads.Learnt
+rows_pair_empty κs a r s e f = by_equation
+
+pub rows_pair_is_empty : OneAnswer rows_stated.PairRow.is_empty.ended rows.PairRow.is_empty.Reads.Learnt
+rows_pair_is_empty κs a r s e f = by_equation
+
 -- places
 pub places_holding_in : OneAnswer places_stated.holding_in.ended places.holding_in.Reads.Learnt
 places_holding_in κs a r s e f = by_equation

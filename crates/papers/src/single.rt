@@ -9,7 +9,7 @@ use std::io;
 use std::io::Write;
 
 // The number of an answer: 0 where nothing is refused.
-pub fn put_answer<W: Write>(out: &mut W, answer: Result<(), Refusal>) -> io::Result<()> {
+fn put_answer<W: Write>(out: &mut W, answer: Result<(), Refusal>) -> io::Result<()> {
     fields::put_number(out, answer.err().map_or(0, Refusal::number))
 }
 
