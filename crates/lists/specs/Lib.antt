@@ -1,6 +1,5 @@
 pub mod Places
 pub mod PlaceLaws
-pub mod TurnLaws
 pub mod Sorted
 pub mod SortedLaws
 pub mod LastLaws

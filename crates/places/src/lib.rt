@@ -65,9 +65,11 @@ pub fn find<R: Row>(rows: &[R], live: usize, row: R) -> Result<usize, usize>
 pub fn insert<R: Row>(rows: &mut [R], at: usize, row: R)
     ensures { rows.new ≡ take (length rows.old) (insert_at at row rows.old) }
 {
-    if at < rows.len() {
-        rows[at..].rotate_right(1);
-        rows[at] = row;
+    let mut carry = row;
+    for i in at..rows.len() {
+        let next = rows[i];
+        rows[i] = carry;
+        carry = next;
     }
 }
 
@@ -75,9 +77,11 @@ pub fn insert<R: Row>(rows: &mut [R], at: usize, row: R)
 pub fn remove<R: Row>(rows: &mut [R], at: usize)
     ensures { rows.new ≡ take (length rows.old) (remove_at at (rows.old ++ R.empty ∷ [])) }
 {
-    if at < rows.len() {
-        rows[at] = R::empty();
-        rows[at..].rotate_left(1);
+    let mut carry = R::empty();
+    for i in (at..rows.len()).rev() {
+        let next = rows[i];
+        rows[i] = carry;
+        carry = next;
     }
 }
 
