@@ -85,7 +85,7 @@ module _ (program : List ℕ → Answer) (meets : (t : List ℕ) → program t �
       omega arith
 
 -- The same of every program that answers a book or a refusal, as `reading::read` does, and meets its contract.
-fault_line : (line : ℕ → ℕ) (x : Result Book RefusedText) → ((f : RefusedText) → x ≡ Err f → f.line ≡ line (number_of f.refusal)) → 0 < (answer_in x).number → (answer_in x).line ≡ line (answer_in x).number
+fault_line : (line : ℕ → ℕ) (x : Result Book RefusedText) → ((f : RefusedText) → x ≡ Err f → f.fault.line ≡ line (number_of f.fault.refusal)) → 0 < (answer_in x).number → (answer_in x).line ≡ line (answer_in x).number
 unfolding read_as
 fault_line line (Ok b) h p = absurd (omega arith)
 fault_line line (Err f) h p = h f refl
@@ -94,10 +94,10 @@ book_lots : (lots : Series → Side → ℕ) (x : Result Book RefusedText) → (
     → (s : Series) (d : Side) → (answer_in x).number ≡ 0 → free (answer_in x).book s d ≡ lots s d
 unfolding read_as
 book_lots lots (Ok b) h s d p = h b s d refl
-book_lots lots (Err f) h s d p = let q = refusal_positive f.refusal in absurd (omega arith)
+book_lots lots (Err f) h s d p = let q = refusal_positive f.fault.refusal in absurd (omega arith)
 
 module _ (program : List ℕ → Result Book RefusedText) (meets : (t : List ℕ) → answer_in (program t) ≡ read_book t) where
-  pub fault_made_up : (line : ℕ → ℕ) → ((t : List ℕ) (f : RefusedText) → program t ≡ Err f → f.line ≡ line (number_of f.refusal)) → ⊥
+  pub fault_made_up : (line : ℕ → ℕ) → ((t : List ℕ) (f : RefusedText) → program t ≡ Err f → f.fault.line ≡ line (number_of f.fault.refusal)) → ⊥
   fault_made_up line e = made_up_line (λ (t : List ℕ). answer_in (program t)) meets line (λ t p. fault_line line (program t) (e t) p)
 
   pub book_told : (b : Book) → sound_book b ≡ true → program (text_of b) ≡ Ok b

@@ -32,7 +32,7 @@ pub fn sillauger_read(text: &[u8]) -> u64
 {
     match reading::read(text) {
         Ok(_) => code_of(0, 0),
-        Err(f) => code_of(f.refusal.number(), f.line),
+        Err(f) => code_of(f.fault.refusal.number(), f.fault.line),
     }
 }
 
@@ -68,7 +68,7 @@ pub fn sillauger_print(text: &[u8], times: u32, out: &mut [u8]) -> u64
             }
             print_code(p)
         }
-        Err(f) => code_of(f.refusal.number(), f.line),
+        Err(f) => code_of(f.fault.refusal.number(), f.fault.line),
     }
 }
 
@@ -85,7 +85,7 @@ fn stated(book: &[u8], sheet: &[u8], times: u32) -> Output
             }
             reports::line_of(b, m)
         }
-        Err(f) => put::refusal(f.refusal.number(), f.line),
+        Err(f) => put::refusal(f.fault.refusal.number(), f.fault.line),
     }
 }
 
@@ -292,6 +292,6 @@ pub fn sillauger_run(book: &[u8], words: &[u32], numbers: &mut [u8], out: &mut [
             }
             Err(refusal) => code_of(refusal.number(), 0),
         },
-        Err(f) => code_of(f.refusal.number(), f.line),
+        Err(f) => code_of(f.fault.refusal.number(), f.fault.line),
     }
 }

@@ -11,15 +11,15 @@ pub one_reading : (x y : Result Book RefusedText) → answer_in x ≡ answer_in 
 unfolding read_as
 one_reading (Ok a) (Ok b) e = ap (λ (c : Book). Ok c) (ap (λ (z : Answer). z.book) e)
 one_reading (Ok a) (Err f) e =
-    let h = refusal_positive f.refusal in
-    let n : 0 ≡ number_of f.refusal = ap (λ (z : Answer). z.number) e in
+    let h = refusal_positive f.fault.refusal in
+    let n : 0 ≡ number_of f.fault.refusal = ap (λ (z : Answer). z.number) e in
     absurd (omega arith)
 one_reading (Err f) (Ok b) e =
-    let h = refusal_positive f.refusal in
-    let n : number_of f.refusal ≡ 0 = ap (λ (z : Answer). z.number) e in
+    let h = refusal_positive f.fault.refusal in
+    let n : number_of f.fault.refusal ≡ 0 = ap (λ (z : Answer). z.number) e in
     absurd (omega arith)
 one_reading (Err f) (Err g) e =
-    let r = one_refusal f.refusal g.refusal (ap (λ (z : Answer). z.number) e) in
-    let l : f.line ≡ g.line = ap (λ (z : Answer). z.line) e in
+    let r = one_refusal f.fault.refusal g.fault.refusal (ap (λ (z : Answer). z.number) e) in
+    let l : f.fault.line ≡ g.fault.line = ap (λ (z : Answer). z.line) e in
     let b : f.book ≡ g.book = ap (λ (z : Answer). z.book) e in
-    λ i. Err (record { refusal = r i; line = l i; book = b i })
+    λ i. Err (record { fault = record { refusal = r i; line = l i }; book = b i })

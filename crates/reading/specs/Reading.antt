@@ -75,4 +75,4 @@ read_book text =
 -- the answer that a read gives
 abbrev pub answer_in : Result Book RefusedText → Answer
 answer_in (Ok b) = read_as b
-answer_in (Err f) = record { number = number_of f.refusal; line = f.line; book = f.book }
+answer_in (Err f) = record { number = number_of f.fault.refusal; line = f.fault.line; book = f.book }

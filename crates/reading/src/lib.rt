@@ -10,15 +10,14 @@ ghost use Rattle.lines.specs.Pieces.{lf, split_on};
 ghost use Rattle.reading.specs.Reading.{answer_in, refused_at, read_lines, read_book};
 ghost use Rattle.reading.specs.Facts.{slot, slot_at, legs_at, less_legs};
 
-use laws::Refusal;
+use laws::{Fault, Refusal};
 use rows::{Book, Holding, Pair};
 use series::{Series, Side};
 
-// Why a text is no book and which line is at fault, 0 where no single one is; and the empty book, as which it reads.
+// Why a text is no book, and the empty book, as which it reads.
 #[derive(Clone, Copy)]
 pub struct RefusedText {
-    pub refusal: Refusal,
-    pub line: u32,
+    pub fault: Fault,
     pub book: Book,
 }
 
@@ -27,8 +26,7 @@ fn refused(refusal: Refusal, line: u32) -> Result<Book, RefusedText>
     ensures { answer_in result ≡ refused_at (number_of refusal) line }
 {
     Err(RefusedText {
-        refusal,
-        line,
+        fault: Fault { refusal, line },
         book: rows::empty_book(0, b'0', 20000101),
     })
 }

@@ -81,7 +81,7 @@ pub fn of_book(text: &[u8]) -> Output
             let length = put_book(&mut line, b);
             Output { text: line, length }
         }
-        Err(fault) => put::refusal(fault.refusal.number(), fault.line),
+        Err(why) => put::refusal(why.fault.refusal.number(), why.fault.line),
     }
 }
 
@@ -146,7 +146,7 @@ pub fn of_margin(book: &[u8], sheet: &[u8]) -> Output
 {
     match reading::read(book) {
         Ok(b) => line_of(b, margin_of(b, sheet)),
-        Err(f) => put::refusal(f.refusal.number(), f.line),
+        Err(f) => put::refusal(f.fault.refusal.number(), f.fault.line),
     }
 }
 
@@ -201,7 +201,7 @@ fn put_desk(dst: &mut [u8], book: &[u8], calls: &[u8]) -> usize
     match reading::read(book) {
         Ok(b) => put_worked(dst, b, calls),
         Err(f) if call_lines::makes_book(calls) => put_worked(dst, f.book, calls),
-        Err(f) => put::put_refusal(dst, 0, f.refusal.number(), f.line),
+        Err(f) => put::put_refusal(dst, 0, f.fault.refusal.number(), f.fault.line),
     }
 }
 

@@ -7,7 +7,7 @@ use Rattle.exports.proofs.sillauger_print.Goals as goal
 
 pub returns-in-Err : goal.returns-in-Err
 returns-in-Err c =
-    let h = refusal_positive c.in-Err.f.refusal in
+    let h = refusal_positive c.in-Err.f.fault.refusal in
     text_refused _ _ _ (rw c.in-Err.is at c.read.ensures) (λ z. omega arith) (rw c.number.ensures at c.code_of.ensures)
 
 pub loop-init : goal.loop-init

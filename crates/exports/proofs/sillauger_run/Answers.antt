@@ -7,7 +7,7 @@ use Rattle.exports.proofs.sillauger_run.Goals as goal
 
 pub returns-in-Err : goal.returns-in-Err
 returns-in-Err c =
-    let h = refusal_positive c.in-Err.f.refusal in
+    let h = refusal_positive c.in-Err.f.fault.refusal in
     run_refused _ _ _ _ _ (rw c.in-Err.is at c.read.ensures) (λ z. omega arith) (rw c.number-in-Err.ensures at c.code_of-in-Err.ensures)
 
 pub returns-in-Err-check_script : goal.returns-in-Err-check_script

@@ -7,7 +7,7 @@ use Rattle.exports.proofs.stated.Goals as goal
 
 pub returns-in-Err : goal.returns-in-Err
 returns-in-Err c =
-    let h = refusal_positive c.in-Err.f.refusal in
+    let h = refusal_positive c.in-Err.f.fault.refusal in
     rw c.number.ensures at c.refusal.ensures ∙ book_refused _ _ _ (rw c.in-Err.is at c.read.ensures) (λ z. omega arith)
 
 pub loop-init : goal.loop-init

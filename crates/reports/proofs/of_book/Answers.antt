@@ -17,7 +17,7 @@ returns-in-Ok c =
 
 pub returns-in-Err : goal.returns-in-Err
 returns-in-Err c =
-    let a : Answer = record { number = number_of c.in-Err.fault.refusal; line = c.in-Err.fault.line; book = c.in-Err.fault.book } in
-    let h = refusal_positive c.in-Err.fault.refusal in
+    let a : Answer = record { number = number_of c.in-Err.why.fault.refusal; line = c.in-Err.why.fault.line; book = c.in-Err.why.book } in
+    let h = refusal_positive c.in-Err.why.fault.refusal in
     rw c.number.ensures at c.refusal.ensures
     ∙ ap output_of (book_refused a (λ z. omega arith) ∙ ap book_report (rw c.in-Err.is at c.read.ensures))

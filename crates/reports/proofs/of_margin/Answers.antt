@@ -10,5 +10,5 @@ returns-in-Ok c = c.line_of.ensures ∙ book_stated _ _ _ (rw c.in-Ok.is at c.re
 
 pub returns-in-Err : goal.returns-in-Err
 returns-in-Err c =
-    let h = refusal_positive c.in-Err.f.refusal in
+    let h = refusal_positive c.in-Err.f.fault.refusal in
     rw c.number.ensures at c.refusal.ensures ∙ book_refused _ _ _ (rw c.in-Err.is at c.read.ensures) (λ z. omega arith)

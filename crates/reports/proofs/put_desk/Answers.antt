@@ -23,6 +23,6 @@ returns-in-Err c = laid_as _ _ (book_made _ _ _ (rw c.in-Err.is at c.read.ensure
 
 pub returns-in-Err-2 : goal.returns-in-Err-2
 returns-in-Err-2 c =
-    let h = refusal_positive c.in-Err.f.refusal in
+    let h = refusal_positive c.in-Err.f.fault.refusal in
     laid_as _ _ (book_refused _ _ _ (rw c.in-Err.is at c.read.ensures) c.if-calls-gt65536.false c.makes_book.ensures c.if-makes_book.false (λ z. omega arith))
     (rw c.number.ensures at c.put_refusal-in-Err-2.ensures)
