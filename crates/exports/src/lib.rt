@@ -229,7 +229,12 @@ fn call_said(b: &mut Book, words: &[u32], at: usize) -> Result<(), Refusal>
     let answer = match word(words, at + CALL) {
         0 => {
             let identity = identity_said(word(words, at + IDENTITY));
-            return make_said(b, word(words, at + ACCOUNT), identity, word(words, at + DAY));
+            return make_said(
+                b,
+                word(words, at + ACCOUNT),
+                identity,
+                word(words, at + DAY),
+            );
         }
         1 => {
             let side = side_said(word(words, at + SIDE));
